@@ -1,0 +1,4 @@
+pub mod Fields
+pub mod Label
+pub mod Outside
+pub mod Padded

@@ -1,0 +1,4 @@
+mod LineFeeds
+pub mod Sizes
+mod Spellings
+mod Whole
