@@ -1,9 +1,15 @@
 // The label of an object.
-ghost use Rattle.std.specs.Prelude.{◌≡◌, MatchResult, IsTrue, false};
+ghost use Rattle.std.specs.Prelude.{◌≡◌, nat_eq, MatchResult, IsTrue, false};
+ghost use Rattle.std.proofs.Common.{rules};
+ghost use Rattle.std.specs.Cmp.{partial_order_from_own_ties};
+ghost use Rattle.std.specs.Cmp.Lexicographic.{pointwise, slice_cmp};
+ghost use Rattle.std.specs.Cmp.Rules.{comparing};
+ghost use Rattle.std.specs.Ordering.{nat_cmp, as_partial_cmp};
 ghost use Rattle.std.specs.List.{list_all};
 ghost use Rattle.pond_base.specs.Label as spec;
 
 use crate::limits::MOST_LABEL_BYTES;
+use std::cmp::Ordering;
 use std::marker::Model;
 
 /// Bytes that are no label.
@@ -11,8 +17,8 @@ use std::marker::Model;
 pub struct BadLabel;
 
 /// The label of an object: 1 to 32 bytes, each of `a` to `z`, `0` to `9` or `_`. Contracts see the
-/// list of these bytes.
-#[derive(Clone, Copy, Debug, PartialEq, Eq, PartialOrd, Ord)]
+/// list of these bytes, by which labels are compared.
+#[derive(Clone, Copy, Debug)]
 pub struct Label {
     // The bytes of the label, and zeros behind them.
     room: [u8; 32],
@@ -57,6 +63,44 @@ impl Label {
         ensures label { IsTrue (spec.is_label self.now) }
     {
         &self.room[..self.count]
+    }
+}
+
+impl PartialEq for Label {
+    ghost eq = { pointwise nat_eq };
+
+    ghost laws = { Prim.search (comparing, rules) };
+
+    fn eq(&self, other: &Label) -> bool {
+        self.bytes() == other.bytes()
+    }
+}
+
+impl Eq for Label {
+    ghost laws = { Prim.search (comparing, rules) };
+}
+
+impl Ord for Label {
+    ghost cmp = { slice_cmp nat_cmp };
+
+    ghost total = { Prim.search (comparing, rules) };
+
+    ghost matches_partial_cmp = { Prim.search (comparing, rules) };
+
+    ghost matches_eq = { Prim.search (comparing, rules) };
+
+    fn cmp(&self, other: &Label) -> Ordering {
+        self.bytes().cmp(other.bytes())
+    }
+}
+
+impl PartialOrd for Label {
+    ghost partial_cmp = { as_partial_cmp (slice_cmp nat_cmp) };
+
+    ghost laws = { partial_order_from_own_ties (Prim.search (comparing, rules)) (Prim.search (comparing, rules)) };
+
+    fn partial_cmp(&self, other: &Label) -> Option<Ordering> {
+        Some(self.cmp(other))
     }
 }
 
