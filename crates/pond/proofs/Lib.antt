@@ -1,0 +1,2 @@
+mod Converses
+mod Said

@@ -1,0 +1,51 @@
+-- The answers of a run of a text, as answers of the program.
+use Rattle.std.proofs.Common.{◌≡◌, ◌≤◌, ◌++◌, ℕ, List, Option, None, Some, length, IfSome, sym, ◌∙◌, ap, subst, append-nil, inr}
+use Rattle.std.specs.Io.KnownBytes.{Appends, Consumes, IsAtEnd}
+use Rattle.script_model.specs.Script.{script_of}
+use Rattle.pond.specs.declared.status.Status.{Status}
+use Rattle.pond.specs.declared.status.Status.TheVariants.{Done, Usage, Refused, ReadFault, WriteFault, Memory, TooLarge}
+use Rattle.pond.specs.Runs.{RunSays}
+use Rattle.pond.specs.Table.{Says, Seen, Outside, IsRun, IsSound, IsSmall, ReadsAll, TakesText, TakesPrefix, TakesAtMost}
+
+-- these bytes are all that a source had, where it tells them
+abbrev pub IsAll : Option (List ℕ) → List ℕ → Type 0
+IsAll known given = IfSome known (λ bytes. bytes ≡ given)
+
+-- what a source gave up to its end is all that it had
+pub gave_all : (before after : Option (List ℕ)) (given : List ℕ) → Consumes before after given → IsAtEnd after → IsAll before given
+gave_all None after given consumed ended = tt
+gave_all (Some x) None given consumed ended = absurd consumed
+gave_all (Some x) (Some y) given consumed ended = consumed ∙ ap (λ rest. given ++ rest) ended ∙ append-nil given
+
+of_all : (P : List ℕ → Type 0) (known : Option (List ℕ)) (given : List ℕ) → IsAll known given → P given → IfSome known P
+of_all P None given all p = tt
+of_all P (Some x) given all p = subst P (sym all) p
+
+-- what holds of the bytes that were given, read whole, holds of all
+pub record IsRead (source : Seen) (given : List ℕ) : Type 0 where
+  pub ended : IsAtEnd source.after
+  pub sound : IsSound source
+  pub all : IsAll source.before given
+  pub small : IsSmall given
+
+reads_all : (source : Seen) (given : List ℕ) (P : List ℕ → Type 0) → IsRead source given → P given → ReadsAll source P
+reads_all source given P read p = record {
+  ended = read.ended;
+  sound = read.sound;
+  bytes = of_all (λ bytes. IsSmall bytes × P bytes) source.before given read.all (read.small, p);
+}
+
+pub run_says : (status : Status) (o : Outside) (given : List ℕ) → IsRun o.words → IsRead o.source given → RunSays status given o.sink → Says status o
+run_says Done o given run read says = record { run = run; read = reads_all o.source given (TakesText o.sink) read says.0; sound = says.1 }
+run_says Usage o given run read says = absurd says
+run_says (Refused line cause) o given run read says = record {
+  run = run;
+  read = reads_all o.source given (λ bytes. script_of bytes ≡ None) read says.none;
+  first = says.first;
+  verb = says.verb;
+  unwritten = says.unwritten;
+}
+run_says ReadFault o given run read says = absurd says
+run_says WriteFault o given run read says = record { run = run; read = reads_all o.source given (TakesPrefix o.sink) read says.0; failed = says.1 }
+run_says Memory o given run read says = record { run = run; written = inr (reads_all o.source given (TakesAtMost o.sink) read says) }
+run_says TooLarge o given run read says = absurd says

@@ -1,0 +1,4 @@
+pub mod Exactly
+pub mod Exit
+pub mod Runs
+pub mod Table

@@ -1,0 +1,125 @@
+-- The table of statuses: what each answer of the program says of its words, its source and its sink.
+use Rattle.std.specs.Prelude.{◌≡◌, ◌≤◌, ◌<◌, ◌⊎◌, ℕ, List, [], ◌∷◌, codes, length, Option, None, Some, IfSome, MatchOption, Bool, false, IsTrue}
+use Rattle.std.specs.Str.{bytes_eq}
+use Rattle.std.specs.Io.KnownBytes.{Appends, IsAtEnd}
+use Rattle.pond_base.specs.Outside.{Rose, AppendsPrefix}
+use Rattle.script_model.specs.Script.{Event, script_of}
+use Rattle.text_model.specs.Text.{text_of}
+use Rattle.script_text.specs.declared.cause.Cause.{Cause}
+use Rattle.script_text.specs.declared.cause.Cause.TheVariants.{Verb}
+use Rattle.pond.specs.declared.status.Status.{Status}
+use Rattle.pond.specs.declared.status.Status.TheVariants.{Done, Usage, Refused, ReadFault, WriteFault, Memory, TooLarge}
+
+-- the most bytes of a script
+abbrev pub most_bytes : ℕ
+most_bytes = 1048576
+
+-- the words are `run` alone
+abbrev pub is_run : List (List ℕ) → Bool
+is_run (word ∷ []) = bytes_eq word (codes "run")
+is_run words = false
+
+abbrev pub IsRun : List (List ℕ) → Type 0
+IsRun words = IsTrue (is_run words)
+
+-- what a call saw of a source or a sink: the bytes left in it or taken by it, where it tells them, and
+-- its count of faults, as the call began and as it ended
+pub record Seen : Type 0 where
+  pub before : Option (List ℕ)
+  pub after : Option (List ℕ)
+  pub faults_before : ℕ
+  pub faults_after : ℕ
+
+-- what a call of the program saw of the outside
+pub record Outside : Type 0 where
+  pub words : List (List ℕ)
+  pub source : Seen
+  pub sink : Seen
+
+-- it was not called
+pub record IsUnused (seen : Seen) : Type 0 where
+  pub same : seen.after ≡ seen.before
+  pub faults : seen.faults_after ≡ seen.faults_before
+
+-- its count of faults rose
+abbrev pub Fails : Seen → Type 0
+Fails seen = Rose seen.faults_before seen.faults_after
+
+-- its count of faults is as it was
+abbrev pub IsSound : Seen → Type 0
+IsSound seen = seen.faults_after ≡ seen.faults_before
+
+-- the sink took the whole text of the script that some bytes are
+abbrev pub TakesText : Seen → List ℕ → Type 0
+TakesText sink bytes = (script : List Event) × (script_of bytes ≡ Some script) × Appends sink.before sink.after (text_of script)
+
+-- the sink took a prefix of it
+abbrev pub TakesPrefix : Seen → List ℕ → Type 0
+TakesPrefix sink bytes = (script : List Event) × (script_of bytes ≡ Some script) × AppendsPrefix sink.before sink.after (text_of script)
+
+-- the sink took a prefix of it, and was not called where the bytes are no script
+abbrev pub TakesAtMost : Seen → List ℕ → Type 0
+TakesAtMost sink bytes = MatchOption (script_of bytes) (IsUnused sink) (λ script. AppendsPrefix sink.before sink.after (text_of script))
+
+-- the bytes are not too many for a script
+abbrev pub IsSmall : List ℕ → Type 0
+IsSmall bytes = length bytes ≤ most_bytes
+
+-- the source was read to its end and never failed, and of all its bytes a fact holds
+pub record ReadsAll (source : Seen) (P : List ℕ → Type 0) : Type 0 where
+  pub ended : IsAtEnd source.after
+  pub sound : IsSound source
+  pub bytes : IfSome source.before (λ bytes. IsSmall bytes × P bytes)
+
+-- the script was run, and its whole text was taken
+pub record IsDone (o : Outside) : Type 0 where
+  pub run : IsRun o.words
+  pub read : ReadsAll o.source (TakesText o.sink)
+  pub sound : IsSound o.sink
+
+-- the words are none that the program knows
+pub record IsUsage (o : Outside) : Type 0 where
+  pub other : ¬ IsRun o.words
+  pub unread : IsUnused o.source
+  pub unwritten : IsUnused o.sink
+
+-- the source gave bytes that are no script
+pub record IsRefused (o : Outside) (line : ℕ) (cause : Cause) : Type 0 where
+  pub run : IsRun o.words
+  pub read : ReadsAll o.source (λ bytes. script_of bytes ≡ None)
+  pub first : line ≡ 1
+  pub verb : cause ≡ Verb
+  pub unwritten : IsUnused o.sink
+
+-- the source failed
+pub record IsReadFault (o : Outside) : Type 0 where
+  pub run : IsRun o.words
+  pub failed : Fails o.source
+  pub unwritten : IsUnused o.sink
+
+-- the sink failed while the script was run
+pub record IsWriteFault (o : Outside) : Type 0 where
+  pub run : IsRun o.words
+  pub read : ReadsAll o.source (TakesPrefix o.sink)
+  pub failed : Fails o.sink
+
+-- memory ran out: before anything was written, or while the script was run
+pub record IsMemory (o : Outside) : Type 0 where
+  pub run : IsRun o.words
+  pub written : IsUnused o.sink ⊎ ReadsAll o.source (TakesAtMost o.sink)
+
+-- the source gave more bytes than a script may have
+pub record IsTooLarge (o : Outside) : Type 0 where
+  pub run : IsRun o.words
+  pub large : IfSome o.source.before (λ bytes. most_bytes < length bytes)
+  pub unwritten : IsUnused o.sink
+
+-- the table
+abbrev pub Says : Status → Outside → Type 0
+Says Done o = IsDone o
+Says Usage o = IsUsage o
+Says (Refused line cause) o = IsRefused o line cause
+Says ReadFault o = IsReadFault o
+Says WriteFault o = IsWriteFault o
+Says Memory o = IsMemory o
+Says TooLarge o = IsTooLarge o

@@ -1,0 +1,42 @@
+// How a call of the program ends.
+ghost use Rattle.std.specs.Prelude.{◌≡◌};
+
+use script_text::Cause;
+
+/// How a call of the program ends.
+#[derive(Clone, Copy, Debug, PartialEq, Eq)]
+pub enum Status {
+    /// The whole text of the script was written.
+    Done,
+    /// The words are none that the program knows. Nothing was read or written.
+    Usage,
+    /// The source gave bytes that are no script, for this cause at this line. Nothing was written.
+    Refused { line: u32, cause: Cause },
+    /// The source failed. Nothing was written.
+    ReadFault,
+    /// The sink failed. A prefix of the text was written.
+    WriteFault,
+    /// Memory ran out. A prefix of the text was written, and nothing where there is no script.
+    Memory,
+    /// The source gave more than 1,048,576 bytes. Nothing was written.
+    TooLarge,
+}
+
+impl Status {
+    ghost use Rattle.pond.specs.Exit.{exit_of};
+
+    /// The exit status of the program.
+    pub fn exit(&self) -> u8
+        ensures { result ≡ exit_of self.now }
+    {
+        match self {
+            Status::Done => 0,
+            Status::Usage => 2,
+            Status::Refused { .. } => 3,
+            Status::ReadFault => 4,
+            Status::WriteFault => 5,
+            Status::Memory => 7,
+            Status::TooLarge => 8,
+        }
+    }
+}
