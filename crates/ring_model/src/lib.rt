@@ -1,0 +1,85 @@
+//! How a ring of 3f+1 members agrees on one list of requests, with no code in sight.
+//!
+//! The ring is a model: its parties, messages and events are plain data, and what a member makes of
+//! the letters that it was given is defined by recounting the whole list. Nothing stands below it.
+//! Each function here is a law: it does nothing, and its contract is a statement about every legal
+//! list of events. The layers above show that their code stands for this model, and call these
+//! functions for what then holds of it: `agrees` and `grows` for the committed list, `only_submitted`
+//! and `held_by_many` for what is in it, the laws of belief for what clients are told, and
+//! `all_executed`, `all_answered` and `all_told` for a run in which everything was delivered.
+#![tactic(auto)]
+
+ghost use Rattle.ring_model.specs.Laws.{QuorumsMeet, AllOwed, OneName, OnlySubmitted, Agrees, Grows, HeldByMany, BelievedIsOwed, BelievedHeart, BelievedSeal, BelievedReply, AllExecuted, FewSent, SentDeclared};
+
+/// Any two sets of 2f+1 of the 3f+1 members share a correct one, where at most f are faulty.
+pub fn quorums_meet()
+    ensures { QuorumsMeet }
+{}
+
+/// Each message that was sent in a correct party's name is one that it owes: a client sends what it
+/// submitted, and a member what follows from its letters. So is each letter that was delivered.
+pub fn all_owed()
+    ensures { AllOwed }
+{}
+
+/// Two requests that are prepared in one slot, at any two members, have one name.
+pub fn one_name()
+    ensures { OneName }
+{}
+
+/// Each request that a member executes was submitted by the client that it names.
+pub fn only_submitted()
+    ensures { OnlySubmitted }
+{}
+
+/// Each correct member's executed list is a prefix of the committed list, unless two submitted
+/// requests have one name.
+pub fn agrees()
+    ensures { Agrees }
+{}
+
+/// The committed list only grows: what it is now is a prefix of what it is after more events.
+pub fn grows()
+    ensures { Grows }
+{}
+
+/// A request that some member holds for committed in a slot is prepared in that slot at f+1 correct
+/// members.
+pub fn held_by_many()
+    ensures { HeldByMany }
+{}
+
+/// Whatever a client believes, of whatever kind of message, some correct member owes it to that client.
+pub fn believed_is_owed()
+    ensures { BelievedIsOwed }
+{}
+
+/// A heart that a client believes is the root's name of a version that a prefix of the committed list makes.
+pub fn believed_heart()
+    ensures { BelievedHeart }
+{}
+
+/// A seal that a client believes is the manifest's name of a version that the committed list makes.
+pub fn believed_seal()
+    ensures { BelievedSeal }
+{}
+
+/// A reply that a client believes is the outcome at a slot of the committed list that holds its request.
+pub fn believed_reply()
+    ensures { BelievedReply }
+{}
+
+/// Where member 0 is correct and all was delivered, each correct member has executed each submitted request.
+pub fn all_executed()
+    ensures { AllExecuted }
+{}
+
+/// However often messages are delivered, no more than this many are ever sent.
+pub fn few_sent()
+    ensures { FewSent }
+{}
+
+/// Each message that was sent goes from a declared party to a declared party.
+pub fn sent_declared()
+    ensures { SentDeclared }
+{}
