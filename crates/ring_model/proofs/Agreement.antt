@@ -1,5 +1,5 @@
 -- Two quorums share a correct member, which sent one Prepare for the slot.
-use Rattle.std.proofs.Common.{◌≡◌, ℕ, suc, ◌+◌, ◌*◌, ◌≤◌, true, false, cond, ◌==◌, nat_le, nat_lt, List, [], ◌∷◌, ◌++◌, length, Contains, Option, Some, None, ◌⊎◌, inl, inr, refl, sym, ap, ◌∙◌, subst₂, arith, length-append, append-nil}
+use Rattle.std.proofs.Common.{◌≡◌, ℕ, suc, ◌+◌, ◌*◌, ◌≤◌, true, false, cond, ◌==◌, nat_le, nat_lt, List, [], ◌∷◌, ◌++◌, length, Contains, Option, Some, None, ◌⊎◌, inl, inr, refl, sym, ap, ◌∙◌, subst₂, arith, length-append, append-nil, subst}
 use Rattle.std.specs.List.{list_any, AllByRecursion as Each}
 use Rattle.std.proofs.lemmas.Bool.{eqb-true, and_parts, leb-true, ltb-true, ltb-false}
 use Rattle.std.proofs.lemmas.Slice.Eq.{bytes_eq-Decides}
@@ -8,7 +8,7 @@ use Rattle.ring_model.specs.History.{said_by, first_word, is_name, voters}
 use Rattle.ring_model.specs.Member.{pre_prepares, prepares, commits, is_request, asks, endorsed, prepared, committed}
 use Rattle.ring_model.specs.World.{World, world, longest}
 use Rattle.ring_model.specs.Laws.{IsPrefix, NoClash, Right, IsSound, OneName, OnlySubmitted}
-use Rattle.ring_model.proofs.History.{same_some, said_holds, any_holds, passing_parts, is_name_true, run_holds, Each-weaker}
+use Rattle.ring_model.proofs.History.{same_some, said_holds, any_holds, passing_parts, is_name_true, run_holds, Each-weaker, prefix_self}
 use Rattle.ring_model.proofs.Counting.{quorums_share}
 use Rattle.ring_model.proofs.Owed.{all_owed, same_party_true}
 
@@ -122,9 +122,12 @@ longest_long {Y} (xs ∷ xss) =
     ] refl
 
 -- a prefix that is no shorter is the whole
-pub prefix_whole : {Y : Type 0} (xs ys : List Y) → IsPrefix xs ys → length ys ≤ length xs → IsPrefix ys xs
-prefix_whole {Y = Y} xs ys h short = whole h.0 h.1
+pub prefix_same : {Y : Type 0} (xs ys : List Y) → IsPrefix xs ys → length ys ≤ length xs → xs ≡ ys
+prefix_same {Y = Y} xs ys h short = whole h.0 h.1
   where
-    whole : (rest : List Y) → xs ++ rest ≡ ys → IsPrefix ys xs
-    whole [] e = ([], append-nil ys ∙ sym e ∙ append-nil xs)
+    whole : (rest : List Y) → xs ++ rest ≡ ys → xs ≡ ys
+    whole [] e = sym (append-nil xs) ∙ e
     whole (x ∷ rest) e = absurd (omega (arith, length-append xs (x ∷ rest), ap length e))
+
+pub prefix_whole : {Y : Type 0} (xs ys : List Y) → IsPrefix xs ys → length ys ≤ length xs → IsPrefix ys xs
+prefix_whole xs ys h short = subst (λ zs. IsPrefix zs xs) (prefix_same xs ys h short) (prefix_self xs)

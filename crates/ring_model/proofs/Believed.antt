@@ -100,7 +100,7 @@ believed_seal g few events legal clear c o v n e =
     let m : Mark = record { object = o; version = v; name = n } in
     (owed.0, subst (λ zs. slice_get (g.seals zs) owed.0 ≡ Some m) prefix.1 (subst (λ us. slice_get us owed.0 ≡ Some m) more.1 (at_stays (g.seals (executed g (w.got (Member b.0)))) more.0 owed.0 m owed.1)))
 
-client_is : (a b : ℕ) → Client a ≡ Client b → b ≡ a
+pub client_is : (a b : ℕ) → Client a ≡ Client b → b ≡ a
 client_is a b e = cc e
 
 pub believed_reply : BelievedReply

@@ -28,12 +28,12 @@ pub below : (a m n : ℕ) → a + m ≤ n → Each (λ k. k < n) (range_with_len
 below a zero n h = tt
 below a (suc m) n h = (omega arith, below (a + 1) m n (omega arith))
 
-all_correct : (g : Ring) → Each (IsCorrect g) (correct g)
+pub all_correct : (g : Ring) → Each (IsCorrect g) (correct g)
 all_correct g =
     Each-weaker (λ k. (k < 3 * g.f + 1) × (not (g.is_faulty k) ≡ true)) (IsCorrect g) (λ k h. (h.0, not-true (g.is_faulty k) h.1)) (correct g)
     (Each-filtered (λ k. k < 3 * g.f + 1) (λ k. not (g.is_faulty k)) (members g) (below 0 (3 * g.f + 1) (3 * g.f + 1) (omega arith)))
 
-at_correct : {Y : Type 0} (P : Y → Type 0) (F : ℕ → Y) (t : ℕ → Bool) (n a i : ℕ) → Each P (map F (filter t (range_with_len a n))) → a ≤ i → i < a + n → t i ≡ true → P (F i)
+pub at_correct : {Y : Type 0} (P : Y → Type 0) (F : ℕ → Y) (t : ℕ → Bool) (n a i : ℕ) → Each P (map F (filter t (range_with_len a n))) → a ≤ i → i < a + n → t i ≡ true → P (F i)
 at_correct P F t zero a i h low high e = absurd (omega arith)
 at_correct {Y} P F t (suc n) a i h low high e =
     ⊎_elim
@@ -50,7 +50,7 @@ at_correct {Y} P F t (suc n) a i h low high e =
     rest false k = k
 
 -- the longest of some lists is one of them, or empty
-longest_of : {Y : Type 0} (P : ℕ → Type 0) (F : ℕ → List Y) (ks : List ℕ) → Each P ks → (longest (map F ks) ≡ []) ⊎ ((k : ℕ) × P k × (longest (map F ks) ≡ F k))
+pub longest_of : {Y : Type 0} (P : ℕ → Type 0) (F : ℕ → List Y) (ks : List ℕ) → Each P ks → (longest (map F ks) ≡ []) ⊎ ((k : ℕ) × P k × (longest (map F ks) ≡ F k))
 longest_of P F [] h = inl refl
 longest_of {Y} P F (k ∷ ks) h = pick (nat_lt (length (F k)) (length (longest (map F ks)))) (longest_of P F ks h.1)
   where

@@ -1,27 +1,27 @@
 -- What is owed was sent.
-use Rattle.std.proofs.Common.{◌≡◌, ℕ, zero, suc, ◌+◌, ◌*◌, ◌<◌, ◌≤◌, true, false, cond, ◌&&◌, ◌==◌, List, [], ◌∷◌, ◌++◌, slice_get, find, Contains, Option, Some, None, ⊎_elim, refl, sym, ap, ◌∙◌, subst, arith}
+use Rattle.std.proofs.Common.{◌≡◌, ℕ, zero, suc, ◌+◌, ◌*◌, ◌<◌, ◌≤◌, true, false, cond, ◌&&◌, ◌==◌, List, [], ◌∷◌, ◌++◌, slice_get, find, Contains, Option, Some, None, ⊎_elim, refl, sym, ap, ◌∙◌, subst, arith, length}
 use Rattle.std.specs.List.{range_with_len}
 use Rattle.std.proofs.lemmas.List.Elements.{Contains-append_left, Contains-append_right, Contains-push_cases}
 use Rattle.ring_model.specs.Messages.{Ring, Letter, Packet, Message, Request, PrePrepare, Prepare, Commit, Sealed, Mark, Party, Member, Client, members, same_party, to_members, to_clients}
-use Rattle.ring_model.specs.Member.{endorsed, prepared, executed, executed_to, order_at, news, newly, answers, causes}
+use Rattle.ring_model.specs.Member.{endorsed, prepared, committed, executed, executed_to, order_at, news, newly, answers, causes}
 use Rattle.ring_model.specs.World.{World, Event, Submit, Resubmit, Deliver, Forge, Archive, asking, between, sends, came, turned, happens, world}
-use Rattle.ring_model.proofs.History.{same_some}
-use Rattle.ring_model.proofs.Stays.{order_stays, endorsed_stays, prepared_stays}
+use Rattle.ring_model.proofs.History.{same_some, first_of_parts}
+use Rattle.ring_model.proofs.Stays.{order_stays, endorsed_stays, prepared_stays, executed_to_stays}
 use Rattle.ring_model.proofs.Owed.{same_party_true}
-use Rattle.ring_model.proofs.Lists.{there_map, there_flat, there_range}
+use Rattle.ring_model.proofs.Lists.{there_map, there_flat, there_range, run_none}
 
--- each item of a kind that the member owes went to each member
-abbrev pub Told : Ring → (List Letter → ℕ → Option (List ℕ)) → (ℕ → List ℕ → Message) → ℕ → List Letter → List Packet → Type 0
-Told g has say i got sent = (s : ℕ) (r : List ℕ) → 1 ≤ s → s ≤ g.slots → has got s ≡ Some r → (j : ℕ) → j < 3 * g.f + 1
-    → Contains sent (record { from = Member i; to = Member j; message = say s r })
+-- what each item of a kind is to be sent as was sent
+abbrev pub Told : {Y : Type 0} → Ring → (List Letter → ℕ → Option Y) → (ℕ → Y → List Packet) → List Letter → List Packet → Type 0
+Told {Y} g has send got sent = (s : ℕ) (y : Y) → 1 ≤ s → s ≤ g.slots → has got s ≡ Some y → (x : Packet) → Contains (send s y) x → Contains sent x
 
 pub record IsComplete (g : Ring) (w : World) : Type 0 where
   pub asked : (r : List ℕ) → Contains w.submits r → (j : ℕ) → j < 3 * g.f + 1 → Contains w.sent (record { from = Client (g.owner r); to = Member j; message = Request r })
-  pub orders : g.is_faulty 0 ≡ false → Told g (order_at g) PrePrepare 0 (w.got (Member 0)) w.sent
-  pub prepares : (i : ℕ) → g.is_faulty i ≡ false → Told g (endorsed g) (λ s r. Prepare s (g.h r)) i (w.got (Member i)) w.sent
-  pub commits : (i : ℕ) → g.is_faulty i ≡ false → Told g (prepared g) (λ s r. Commit s (g.h r)) i (w.got (Member i)) w.sent
+  pub orders : g.is_faulty 0 ≡ false → Told g (order_at g) (λ k r. to_members g (Member 0) (PrePrepare k r)) (w.got (Member 0)) w.sent
+  pub prepares : (i : ℕ) → g.is_faulty i ≡ false → Told g (endorsed g) (λ s r. to_members g (Member i) (Prepare s (g.h r))) (w.got (Member i)) w.sent
+  pub commits : (i : ℕ) → g.is_faulty i ≡ false → Told g (prepared g) (λ s r. to_members g (Member i) (Commit s (g.h r))) (w.got (Member i)) w.sent
+  pub answered : (i : ℕ) → g.is_faulty i ≡ false → Told g (executed_to g) (λ s xs. answers g i xs) (w.got (Member i)) w.sent
 
-to_all : (g : Ring) (from : Party) (m : Message) (j : ℕ) → j < 3 * g.f + 1 → Contains (to_members g from m) (record { from = from; to = Member j; message = m })
+pub to_all : (g : Ring) (from : Party) (m : Message) (j : ℕ) → j < 3 * g.f + 1 → Contains (to_members g from m) (record { from = from; to = Member j; message = m })
 to_all g from m j h = there_map (λ j. record { from = from; to = Member j; message = m }) (members g) j (there_range (3 * g.f + 1) 0 j (omega arith) (omega arith))
 
 newly_there : {Y : Type 0} (g : Ring) (before after : ℕ → Option Y) (send : ℕ → Y → List Packet) (s : ℕ) (y : Y) (x : Packet) → 1 ≤ s → s ≤ g.slots
@@ -31,32 +31,34 @@ newly_there {Y} g before after send s y x low high none now c =
     (subst (λ (o : Option Y). Contains (news o (after s) (send s)) x) (sym none) (subst (λ (o : Option Y). Contains (news None o (send s)) x) (sym now) c))
 
 -- one letter more: what was owed was sent, and what is new is among what is sent now
-told_more : (g : Ring) (has : List Letter → ℕ → Option (List ℕ)) (say : ℕ → List ℕ → Message) (i : ℕ) (l : Letter) (older : List Letter) (sent more : List Packet)
-    → ((s : ℕ) (r : List ℕ) → has older s ≡ Some r → has (l ∷ older) s ≡ Some r)
-    → ((x : Packet) → Contains (newly g (has older) (has (l ∷ older)) (λ s r. to_members g (Member i) (say s r))) x → Contains more x)
-    → Told g has say i older sent → Told g has say i (l ∷ older) (sent ++ more)
-told_more g has say i l older sent more stays among told s r low high e j jn =
-    elim (has older s) as (λ o. has older s ≡ o → Contains (sent ++ more) (record { from = Member i; to = Member j; message = say s r })) [
-      | Some t ↦ λ old.
-          let same : t ≡ r = same_some t r (sym (stays s t old) ∙ e) in
-          Contains-append_left sent more (record { from = Member i; to = Member j; message = say s r }) (told s r low high (old ∙ ap Some same) j jn)
-      | None ↦ λ none.
-          Contains-append_right sent more (record { from = Member i; to = Member j; message = say s r })
-          (among (record { from = Member i; to = Member j; message = say s r }) (newly_there g (has older) (has (l ∷ older)) (λ s r. to_members g (Member i) (say s r)) s r (record { from = Member i; to = Member j; message = say s r }) low high none e (to_all g (Member i) (say s r) j jn)))
+told_more : {Y : Type 0} (g : Ring) (has : List Letter → ℕ → Option Y) (send : ℕ → Y → List Packet) (l : Letter) (older : List Letter) (sent more : List Packet)
+    → ((s : ℕ) (y : Y) → has older s ≡ Some y → has (l ∷ older) s ≡ Some y)
+    → ((x : Packet) → Contains (newly g (has older) (has (l ∷ older)) send) x → Contains more x)
+    → Told g has send older sent → Told g has send (l ∷ older) (sent ++ more)
+told_more {Y} g has send l older sent more stays among told s y low high e x c =
+    elim (has older s) as (λ (o : Option Y). has older s ≡ o → Contains (sent ++ more) x) [
+      | Some z ↦ λ old.
+          let same : z ≡ y = same_some z y (sym (stays s z old) ∙ e) in
+          Contains-append_left sent more x (told s y low high (old ∙ ap Some same) x c)
+      | None ↦ λ none. Contains-append_right sent more x (among x (newly_there g (has older) (has (l ∷ older)) send s y x low high none e c))
     ] refl
 
 -- letters stay, more is sent
+told_kept : {Y : Type 0} (g : Ring) (w v : World) (more : List Packet) → v.got ≡ w.got → v.sent ≡ w.sent ++ more
+    → (has : List Letter → ℕ → Option Y) (send : ℕ → Y → List Packet) (i : ℕ) → Told g has send (w.got (Member i)) w.sent → Told g has send (v.got (Member i)) v.sent
+told_kept {Y} g w v more same sent has send i t =
+    subst (λ (got : Party → List Letter). Told g has send (got (Member i)) v.sent) (sym same)
+    (λ s y low high e x c. subst (λ xs. Contains xs x) (sym sent) (Contains-append_left w.sent more x (t s y low high e x c)))
+
 complete_more : (g : Ring) (w v : World) (more : List Packet) → IsComplete g w → v.got ≡ w.got → v.sent ≡ w.sent ++ more
     → ((r : List ℕ) → Contains v.submits r → (j : ℕ) → j < 3 * g.f + 1 → Contains v.sent (record { from = Client (g.owner r); to = Member j; message = Request r })) → IsComplete g v
 complete_more g w v more full same sent asks =
-    let told : (has : List Letter → ℕ → Option (List ℕ)) (say : ℕ → List ℕ → Message) (i : ℕ) → Told g has say i (w.got (Member i)) w.sent → Told g has say i (v.got (Member i)) v.sent
-    = λ has say i t. subst (λ (got : Party → List Letter). Told g has say i (got (Member i)) v.sent) (sym same)
-    (λ s r low high e j jn. subst (λ xs. Contains xs (record { from = Member i; to = Member j; message = say s r })) (sym sent) (Contains-append_left w.sent more (record { from = Member i; to = Member j; message = say s r }) (t s r low high e j jn))) in
     record {
       asked = asks;
-      orders = λ ok. told (order_at g) PrePrepare 0 (full.orders ok);
-      prepares = λ i ok. told (endorsed g) (λ s r. Prepare s (g.h r)) i (full.prepares i ok);
-      commits = λ i ok. told (prepared g) (λ s r. Commit s (g.h r)) i (full.commits i ok);
+      orders = λ ok. told_kept g w v more same sent (order_at g) (λ k r. to_members g (Member 0) (PrePrepare k r)) 0 (full.orders ok);
+      prepares = λ i ok. told_kept g w v more same sent (endorsed g) (λ s r. to_members g (Member i) (Prepare s (g.h r))) i (full.prepares i ok);
+      commits = λ i ok. told_kept g w v more same sent (prepared g) (λ s r. to_members g (Member i) (Commit s (g.h r))) i (full.commits i ok);
+      answered = λ i ok. told_kept g w v more same sent (executed_to g) (λ s xs. answers g i xs) i (full.answered i ok);
     }
 
 asked_more : (g : Ring) (w v : World) (more : List Packet) → IsComplete g w → v.submits ≡ w.submits → v.sent ≡ w.sent ++ more
@@ -69,6 +71,8 @@ asked_more g w v more full subs sent r c j jn =
 parts : (g : Ring) (i : ℕ) (older got : List Letter) (x : Packet)
     → (Contains (newly g (endorsed g older) (endorsed g got) (λ s r. to_members g (Member i) (Prepare s (g.h r)))) x → Contains (causes g i older got) x)
     × (Contains (newly g (prepared g older) (prepared g got) (λ s r. to_members g (Member i) (Commit s (g.h r)))) x → Contains (causes g i older got) x)
+    × (Contains (newly g (executed_to g older) (executed_to g got) (λ s xs. answers g i xs)) x → Contains (causes g i older got) x)
+    × (Contains (cond (i == 0) (newly g (order_at g older) (order_at g got) (λ k r. to_members g (Member i) (PrePrepare k r))) []) x → Contains (causes g i older got) x)
 parts g i older got x =
     let A = cond (i == 0) (newly g (order_at g older) (order_at g got) (λ k r. to_members g (Member i) (PrePrepare k r))) [] in
     let B = newly g (endorsed g older) (endorsed g got) (λ s r. to_members g (Member i) (Prepare s (g.h r))) in
@@ -76,43 +80,37 @@ parts g i older got x =
     let D = newly g (executed_to g older) (executed_to g got) (λ s xs. answers g i xs) in (
       λ c. Contains-append_left (A ++ B ++ C) D x (Contains-append_left (A ++ B) C x (Contains-append_right A B x c)),
       λ c. Contains-append_left (A ++ B ++ C) D x (Contains-append_right (A ++ B) C x c),
+      λ c. Contains-append_right (A ++ B ++ C) D x c,
+      λ c. Contains-append_left (A ++ B ++ C) D x (Contains-append_left (A ++ B) C x (Contains-append_left A B x c)),
     )
-
-part_of_orders : (g : Ring) (older got : List Letter) (x : Packet)
-    → Contains (newly g (order_at g older) (order_at g got) (λ k r. to_members g (Member 0) (PrePrepare k r))) x → Contains (causes g 0 older got) x
-part_of_orders g older got x c =
-    let A = newly g (order_at g older) (order_at g got) (λ k r. to_members g (Member 0) (PrePrepare k r)) in
-    let B = newly g (endorsed g older) (endorsed g got) (λ s r. to_members g (Member 0) (Prepare s (g.h r))) in
-    let C = newly g (prepared g older) (prepared g got) (λ s r. to_members g (Member 0) (Commit s (g.h r))) in
-    let D = newly g (executed_to g older) (executed_to g got) (λ s xs. answers g 0 xs) in
-    Contains-append_left (A ++ B ++ C) D x (Contains-append_left (A ++ B) C x (Contains-append_left A B x c))
 
 came_complete : (g : Ring) (w : World) (o : Option Packet) → IsComplete g w → IsComplete g (came g w o)
 came_complete g w None full = full
 came_complete g w (Some x) full =
     record {
       asked = asked_more g w (came g w (Some x)) (sends g x.to (w.got x.to) (l ∷ w.got x.to)) full refl refl;
-      orders = λ ok. told 0 ok (order_at g) PrePrepare (order_stays g l (w.got (Member 0))) (λ y c. part_of_orders g (w.got (Member 0)) (l ∷ w.got (Member 0)) y c) (full.orders ok);
-      prepares = λ i ok. told i ok (endorsed g) (λ s r. Prepare s (g.h r)) (endorsed_stays g l (w.got (Member i))) (λ y c. (parts g i (w.got (Member i)) (l ∷ w.got (Member i)) y).0 c) (full.prepares i ok);
-      commits = λ i ok. told i ok (prepared g) (λ s r. Commit s (g.h r)) (prepared_stays g l (w.got (Member i))) (λ y c. (parts g i (w.got (Member i)) (l ∷ w.got (Member i)) y).1 c) (full.commits i ok);
+      orders = λ ok. told 0 ok (order_at g) (λ k r. to_members g (Member 0) (PrePrepare k r)) (order_stays g l (w.got (Member 0))) (λ y c. (parts g 0 (w.got (Member 0)) (l ∷ w.got (Member 0)) y).3 c) (full.orders ok);
+      prepares = λ i ok. told i ok (endorsed g) (λ s r. to_members g (Member i) (Prepare s (g.h r))) (endorsed_stays g l (w.got (Member i))) (λ y c. (parts g i (w.got (Member i)) (l ∷ w.got (Member i)) y).0 c) (full.prepares i ok);
+      commits = λ i ok. told i ok (prepared g) (λ s r. to_members g (Member i) (Commit s (g.h r))) (prepared_stays g l (w.got (Member i))) (λ y c. (parts g i (w.got (Member i)) (l ∷ w.got (Member i)) y).1 c) (full.commits i ok);
+      answered = λ i ok. told i ok (executed_to g) (λ s xs. answers g i xs) (executed_to_stays g l (w.got (Member i))) (λ y c. (parts g i (w.got (Member i)) (l ∷ w.got (Member i)) y).2 c) (full.answered i ok);
     }
   where
     l : Letter
     l = record { from = x.from; message = x.message }
 
-    told : (i : ℕ) → g.is_faulty i ≡ false → (has : List Letter → ℕ → Option (List ℕ)) (say : ℕ → List ℕ → Message)
-        → ((s : ℕ) (r : List ℕ) → has (w.got (Member i)) s ≡ Some r → has (l ∷ w.got (Member i)) s ≡ Some r)
-        → ((y : Packet) → Contains (newly g (has (w.got (Member i))) (has (l ∷ w.got (Member i))) (λ s r. to_members g (Member i) (say s r))) y → Contains (causes g i (w.got (Member i)) (l ∷ w.got (Member i))) y)
-        → Told g has say i (w.got (Member i)) w.sent
-        → Told g has say i (cond (same_party x.to (Member i)) (l ∷ w.got (Member i)) (w.got (Member i))) (w.sent ++ sends g x.to (w.got x.to) (l ∷ w.got x.to))
-    told i ok has say stays among t =
-        elim (same_party x.to (Member i)) as (λ b. same_party x.to (Member i) ≡ b → Told g has say i (cond b (l ∷ w.got (Member i)) (w.got (Member i))) (w.sent ++ sends g x.to (w.got x.to) (l ∷ w.got x.to))) [
+    told : {Y : Type 0} (i : ℕ) → g.is_faulty i ≡ false → (has : List Letter → ℕ → Option Y) (send : ℕ → Y → List Packet)
+        → ((s : ℕ) (y : Y) → has (w.got (Member i)) s ≡ Some y → has (l ∷ w.got (Member i)) s ≡ Some y)
+        → ((y : Packet) → Contains (newly g (has (w.got (Member i))) (has (l ∷ w.got (Member i))) send) y → Contains (causes g i (w.got (Member i)) (l ∷ w.got (Member i))) y)
+        → Told g has send (w.got (Member i)) w.sent
+        → Told g has send (cond (same_party x.to (Member i)) (l ∷ w.got (Member i)) (w.got (Member i))) (w.sent ++ sends g x.to (w.got x.to) (l ∷ w.got x.to))
+    told {Y} i ok has send stays among t =
+        elim (same_party x.to (Member i)) as (λ b. same_party x.to (Member i) ≡ b → Told g has send (cond b (l ∷ w.got (Member i)) (w.got (Member i))) (w.sent ++ sends g x.to (w.got x.to) (l ∷ w.got x.to))) [
           | true ↦ λ same.
               let to : x.to ≡ Member i = same_party_true x.to (Member i) same in
               let mine : sends g x.to (w.got x.to) (l ∷ w.got x.to) ≡ causes g i (w.got (Member i)) (l ∷ w.got (Member i))
               = ap (λ p. sends g p (w.got p) (l ∷ w.got p)) to ∙ ap (λ b. cond b [] (causes g i (w.got (Member i)) (l ∷ w.got (Member i)))) ok in
-              told_more g has say i l (w.got (Member i)) w.sent (sends g x.to (w.got x.to) (l ∷ w.got x.to)) stays (λ y c. subst (λ ys. Contains ys y) (sym mine) (among y c)) t
-          | false ↦ λ _ s r low high e j jn. Contains-append_left w.sent (sends g x.to (w.got x.to) (l ∷ w.got x.to)) (record { from = Member i; to = Member j; message = say s r }) (t s r low high e j jn)
+              told_more g has send l (w.got (Member i)) w.sent (sends g x.to (w.got x.to) (l ∷ w.got x.to)) stays (λ y c. subst (λ ys. Contains ys y) (sym mine) (among y c)) t
+          | false ↦ λ _ s y low high e z c. Contains-append_left w.sent (sends g x.to (w.got x.to) (l ∷ w.got x.to)) z (t s y low high e z c)
         ] refl
 
 turned_complete : (g : Ring) (w : World) (i : ℕ) (o : Option Mark) → IsComplete g w → IsComplete g (turned g w i o)
@@ -140,7 +138,13 @@ happens_complete g w (Archive i) full = turned_complete g w i (slice_get (g.seal
 
 pub all_complete : (g : Ring) (events : List Event) → IsComplete g (world g events)
 all_complete g [] =
-    record { asked = λ r c. absurd (omega (arith, c.1)); orders = λ ok s r low high e. absurd (none s e); prepares = λ i ok s r low high e. absurd (cc e); commits = λ i ok s r low high e. absurd (cc e) }
+    record {
+      asked = λ r c. absurd (omega (arith, c.1));
+      orders = λ ok s r low high e. absurd (none s e);
+      prepares = λ i ok s r low high e. absurd (cc e);
+      commits = λ i ok s r low high e. absurd (cc e);
+      answered = λ i ok s xs low high e. absurd (omega (arith, low, (first_of_parts s (executed g []) xs e).1, ap length (run_none (committed g []) g.slots 1 refl)));
+    }
   where
     none : (s : ℕ) {r : List ℕ} → order_at g [] s ≡ Some r → ⊥
     none zero e = cc e

@@ -1,7 +1,7 @@
 -- Where all was delivered, all was executed.
 use Rattle.std.proofs.Common.{◌≡◌, ℕ, zero, suc, ◌+◌, ◌-◌, ◌*◌, ◌<◌, ◌≤◌, Bool, true, false, cond, ◌==◌, nat_le, List, [], ◌∷◌, length, slice_get, filter, count_by, Contains, Option, Some, None, ◌⊎◌, inl, inr, ⊎_elim, bytes_eq, refl, sym, ap, ◌∙◌, subst, subst₂, arith}
 use Rattle.std.specs.List.{list_any, AllByRecursion as Each}
-use Rattle.std.proofs.lemmas.Bool.{eqb-true, eq-eqb, and_from, le-leb, cases_Bool}
+use Rattle.std.proofs.lemmas.Bool.{eqb-true, eq-eqb, and_from, le-leb, cases_Bool, cases_lt}
 use Rattle.std.proofs.lemmas.List.Sums.{sum_by-cons, length-filter, count_by-le-length}
 use Rattle.std.proofs.lemmas.List.FromFn.{length-range_with_len}
 use Rattle.std.proofs.lemmas.List.Elements.{Contains-append_left}
@@ -9,14 +9,14 @@ use Rattle.std.proofs.lemmas.Slice.Eq.{bytes_eq-Decides}
 use Rattle.ring_model.specs.Messages.{Ring, Letter, Packet, Message, Request, PrePrepare, Prepare, Commit, Member, Client, members, FewFaulty}
 use Rattle.ring_model.specs.History.{said_by, first_word, is_name, voters, run_of}
 use Rattle.ring_model.specs.Member.{pre_prepares, prepares, commits, asks, endorsed, prepared, committed, executed, numbered, orders}
-use Rattle.ring_model.specs.World.{World, world}
-use Rattle.ring_model.specs.Laws.{Right, IsSound, IsCorrect, IsHonest, AllExecuted}
-use Rattle.ring_model.proofs.History.{same_some, said_holds, passing_from, run_holds}
+use Rattle.ring_model.specs.World.{World, world, Event, IsLegal}
+use Rattle.ring_model.specs.Laws.{Right, IsSound, IsCorrect, IsHonest, AllExecuted, AllDelivered}
+use Rattle.ring_model.proofs.History.{same_some, said_holds, passing_from, run_holds, passing_parts}
 use Rattle.ring_model.proofs.Counting.{in_range}
 use Rattle.ring_model.proofs.Owed.{all_owed}
-use Rattle.ring_model.proofs.Agreement.{said_by_parts, word_right, prepares_is, commits_is}
-use Rattle.ring_model.proofs.Lists.{there_none, there_first, there_later, there_cases, Each-there, filter_there, any_there, said_there, at_short, run_has, run_reaches, run_there, short_by_owner}
-use Rattle.ring_model.proofs.Complete.{IsComplete, all_complete}
+use Rattle.ring_model.proofs.Agreement.{said_by_parts, word_right, prepares_is, commits_is, committed_parts, prefix_same}
+use Rattle.ring_model.proofs.Lists.{there_none, there_first, there_later, there_cases, Each-there, filter_there, any_there, said_there, at_short, run_has, run_reaches, run_there, short_by_owner, Each-from_there, there_filter, at_in}
+use Rattle.ring_model.proofs.Complete.{IsComplete, all_complete, to_all}
 use Rattle.ring_model.proofs.Ordered.{of_client, IsNumbered, all_numbered, from_client, from_is, numbered_is, client_orders}
 
 here : {Y : Type 0} (t s : ℕ) (x y : Y) → cond (t == s) (Some x) None ≡ Some y → (t ≡ s) × (x ≡ y)
@@ -30,20 +30,8 @@ pre_prepares_is : (s : ℕ) (m : Message) (r : List ℕ) → pre_prepares s m �
 pre_prepares_is s (PrePrepare t x) r e = let h = here t s x r e in cc
 pre_prepares_is s _ r e = absurd (cc e)
 
-at_own : {Y : Type 0} (s : ℕ) (x : Y) → cond (s == s) (Some x) None ≡ Some x
+pub at_own : {Y : Type 0} (s : ℕ) (x : Y) → cond (s == s) (Some x) None ≡ Some x
 at_own s x = ap (λ b. cond b (Some x) None) (eq-eqb s s refl)
-
-pub Each-from_there : {X : Type 0} (P : X → Type 0) (xs : List X) → ((x : X) → Contains xs x → P x) → Each P xs
-Each-from_there P [] f = tt
-Each-from_there P (x ∷ xs) f = (f x (there_first x xs), Each-from_there P xs (λ y c. f y (there_later x xs y c)))
-
-there_filter : {X : Type 0} (t : X → Bool) (xs : List X) (x : X) → Contains xs x → t x ≡ true → Contains (filter t xs) x
-there_filter t [] x c e = absurd (there_none x c)
-there_filter {X} t (y ∷ xs) x c e =
-    elim (t y) as (λ b. t y ≡ b → Contains (cond b (y ∷ filter t xs) (filter t xs)) x) [
-      | true ↦ λ _. ⊎_elim (λ same. subst (Contains (y ∷ filter t xs)) same (there_first y (filter t xs))) (λ d. there_later y (filter t xs) x (there_filter t xs x d e)) (there_cases y xs x c)
-      | false ↦ λ no. ⊎_elim (λ same. absurd (cc (no, ap t same, e))) (λ d. there_filter t xs x d e) (there_cases y xs x c)
-    ] refl
 
 -- at each place of the list one test or the other passes
 either_there : (q r : ℕ → Bool) (xs : List ℕ) → ((x : ℕ) → Contains xs x → (q x ≡ true) ⊎ (r x ≡ true)) → length xs ≤ count_by q xs + count_by r xs
@@ -57,7 +45,7 @@ either_there q r (x ∷ xs) f =
     one false false h = ⊎_elim (λ e. absurd (cc e)) (λ e. absurd (cc e)) h
 
 -- what every correct member says first is said by a quorum
-enough_votes : (g : Ring) → FewFaulty g → (got : List Letter) (say : Message → Option (List ℕ)) (m : Message) (d : List ℕ) → say m ≡ Some d
+pub enough_votes : (g : Ring) → FewFaulty g → (got : List Letter) (say : Message → Option (List ℕ)) (m : Message) (d : List ℕ) → say m ≡ Some d
     → ((i : ℕ) → IsCorrect g i → Contains got (record { from = Member i; message = m }))
     → ((i : ℕ) → IsCorrect g i → (z : List ℕ) → first_word (Member i) say got ≡ Some z → z ≡ d)
     → nat_le (2 * g.f + 1) (voters g say d got) ≡ true
@@ -71,12 +59,20 @@ enough_votes g few got say m d says came only =
         let z = said_there (said_by (Member i) say) got (record { from = Member i; message = m }) d (came i (low, ok)) mine in
         inr (ap (is_name d) z.1 ∙ (bytes_eq-Decides z.0 d).1 (only i (low, ok) z.0 z.1))
 
-pub all_executed : AllExecuted
-all_executed g few lead events legal delivered i ok r c = done
-  where
-    w : World
-    w = world g events
+-- What holds where member 0 is correct and all was delivered: the orders of member 0 are the submitted requests, and each correct member has executed just these.
+pub record IsSettled (g : Ring) (w : World) : Type 0 where
+  pub sound : IsSound g w
+  pub full : IsComplete g w
+  pub nums : IsNumbered g w.submits
+  pub came : (x : Packet) → Contains w.sent x → IsHonest g x.from → IsHonest g x.to → Contains (w.got x.to) (record { from = x.from; message = x.message })
+  pub ordered : (t : List ℕ) → Contains w.submits t → Contains (orders g (w.got (Member 0))) t
+  pub real : (t : List ℕ) → Contains (orders g (w.got (Member 0))) t → Contains w.submits t
+  pub short : length (orders g (w.got (Member 0))) ≤ g.slots
+  pub ran : (i : ℕ) → IsCorrect g i → executed g (w.got (Member i)) ≡ orders g (w.got (Member 0))
 
+pub settled : (g : Ring) → FewFaulty g → g.is_faulty 0 ≡ false → (events : List Event) → IsLegal g events → AllDelivered g (world g events) → IsSettled g (world g events)
+settled g few lead events legal delivered = record { sound = sound; full = full; nums = nums; came = came; ordered = ordered; real = real; short = short; ran = ran }
+  where
     sound : IsSound g (world g events)
     sound = all_owed g events legal
 
@@ -169,18 +165,13 @@ all_executed g few lead events legal delivered i ok r c = done
         let got = (world g events).got (Member j) in
         let low = at_short (orders g ((world g events).got (Member 0))) k t e in
         let x : Letter = record { from = Member 0; message = PrePrepare (suc k) t } in
-        let there = came (record { from = Member 0; to = Member j; message = PrePrepare (suc k) t }) (full.orders lead (suc k) t (omega arith) (omega (arith, short, low)) e j good.0) lead good.1 in
+        let there = came (record { from = Member 0; to = Member j; message = PrePrepare (suc k) t }) (full.orders lead (suc k) t (omega arith) (omega (arith, short, low)) e (record { from = Member 0; to = Member j; message = PrePrepare (suc k) t }) (to_all g (Member 0) (PrePrepare (suc k) t) j good.0)) lead good.1 in
         let z = said_there (said_by (Member 0) (pre_prepares (suc k))) got x t there (at_own (suc k) t) in
         let right = word_right g (world g events) sound (Member 0) (Member j) (pre_prepares (suc k)) z.0 (PrePrepare (suc k) z.0) (λ m. pre_prepares_is (suc k) m z.0) z.1 lead in
         let same : z.0 ≡ t = same_some z.0 t (sym right.1 ∙ e) in
         passing_from (λ r. list_any (asks g r) got) (first_word (Member 0) (pre_prepares (suc k)) got) t (z.1 ∙ ap Some same)
         (any_there (asks g t) got (record { from = Client (g.owner t); message = Request t }) (asked j good t (real t (at_in (orders g ((world g events).got (Member 0))) k t e)))
         (and_from (g.owner t == g.owner t) (bytes_eq t t) (eq-eqb (g.owner t) (g.owner t) refl) ((bytes_eq-Decides t t).1 refl)))
-      where
-        at_in : (xs : List (List ℕ)) (k : ℕ) (t : List ℕ) → slice_get xs k ≡ Some t → Contains xs t
-        at_in [] k t e = absurd (cc e)
-        at_in (x ∷ xs) zero t e = subst (Contains (x ∷ xs)) (same_some x t e) (there_first x xs)
-        at_in (x ∷ xs) (suc k) t e = there_later x xs t (at_in xs k t e)
 
     prepare : (k : ℕ) (t : List ℕ) → slice_get (orders g ((world g events).got (Member 0))) k ≡ Some t → (j : ℕ) → IsCorrect g j → prepared g ((world g events).got (Member j)) (suc k) ≡ Some t
     prepare k t e j good =
@@ -188,7 +179,7 @@ all_executed g few lead events legal delivered i ok r c = done
         let low = at_short (orders g ((world g events).got (Member 0))) k t e in
         passing_from (λ r. nat_le (2 * g.f + 1) (voters g (prepares (suc k)) (g.h r) got)) (endorsed g got (suc k)) t (endorse k t e j good)
         (enough_votes g few got (prepares (suc k)) (Prepare (suc k) (g.h t)) (g.h t) (at_own (suc k) (g.h t))
-        (λ i fine. came (record { from = Member i; to = Member j; message = Prepare (suc k) (g.h t) }) (full.prepares i fine.1 (suc k) t (omega arith) (omega (arith, short, low)) (endorse k t e i fine) j good.0) fine.1 good.1)
+        (λ i fine. came (record { from = Member i; to = Member j; message = Prepare (suc k) (g.h t) }) (full.prepares i fine.1 (suc k) t (omega arith) (omega (arith, short, low)) (endorse k t e i fine) (record { from = Member i; to = Member j; message = Prepare (suc k) (g.h t) }) (to_all g (Member i) (Prepare (suc k) (g.h t)) j good.0)) fine.1 good.1)
         (λ i fine z says.
         let right = word_right g (world g events) sound (Member i) (Member j) (prepares (suc k)) z (Prepare (suc k) z) (λ m. prepares_is (suc k) m z) says fine.1 in
         sym right.2 ∙ ap g.h (same_some right.0 t (sym right.1 ∙ endorse k t e i fine))))
@@ -199,13 +190,34 @@ all_executed g few lead events legal delivered i ok r c = done
         let low = at_short (orders g ((world g events).got (Member 0))) k t e in
         passing_from (λ r. nat_le (2 * g.f + 1) (voters g (commits (suc k)) (g.h r) got)) (prepared g got (suc k)) t (prepare k t e j good)
         (enough_votes g few got (commits (suc k)) (Commit (suc k) (g.h t)) (g.h t) (at_own (suc k) (g.h t))
-        (λ i fine. came (record { from = Member i; to = Member j; message = Commit (suc k) (g.h t) }) (full.commits i fine.1 (suc k) t (omega arith) (omega (arith, short, low)) (prepare k t e i fine) j good.0) fine.1 good.1)
+        (λ i fine. came (record { from = Member i; to = Member j; message = Commit (suc k) (g.h t) }) (full.commits i fine.1 (suc k) t (omega arith) (omega (arith, short, low)) (prepare k t e i fine) (record { from = Member i; to = Member j; message = Commit (suc k) (g.h t) }) (to_all g (Member i) (Commit (suc k) (g.h t)) j good.0)) fine.1 good.1)
         (λ i fine z says.
         let right = word_right g (world g events) sound (Member i) (Member j) (commits (suc k)) z (Commit (suc k) z) (λ m. commits_is (suc k) m z) says fine.1 in
         sym right.2 ∙ ap g.h (same_some right.0 t (sym right.1 ∙ prepare k t e i fine))))
 
-    done : Contains (executed g ((world g events).got (Member i))) r
-    done =
-        let prefix = run_reaches (committed g ((world g events).got (Member i))) (orders g ((world g events).got (Member 0))) g.slots 1 short
-        (λ k t e. ap (committed g ((world g events).got (Member i))) (omega arith) ∙ commit k t e i ok) in
-        subst (λ xs. Contains xs r) prefix.1 (Contains-append_left (orders g ((world g events).got (Member 0))) prefix.0 r (ordered r c))
+    -- nothing is endorsed beyond the orders
+    stops : (j : ℕ) → IsCorrect g j → length (executed g ((world g events).got (Member j))) ≤ length (orders g ((world g events).got (Member 0)))
+    stops j good =
+        ⊎_elim
+        (λ more.
+        let got = (world g events).got (Member j) in
+        let n = length (orders g ((world g events).got (Member 0))) in
+        let y = run_has (committed g got) g.slots 1 n more in
+        let e = (committed_parts g got (suc n) y.0 (ap (committed g got) (omega arith) ∙ y.1)).1 in
+        let word = (passing_parts (λ r. list_any (asks g r) got) (first_word (Member 0) (pre_prepares (suc n)) got) y.0 e).0 in
+        let right = word_right g (world g events) sound (Member 0) (Member j) (pre_prepares (suc n)) y.0 (PrePrepare (suc n) y.0) (λ m. pre_prepares_is (suc n) m y.0) word lead in
+        absurd (omega (arith, at_short (orders g ((world g events).got (Member 0))) n y.0 right.1)))
+        (λ fits. fits)
+        (cases_lt (length (orders g ((world g events).got (Member 0)))) (length (executed g ((world g events).got (Member j)))))
+
+    ran : (j : ℕ) → IsCorrect g j → executed g ((world g events).got (Member j)) ≡ orders g ((world g events).got (Member 0))
+    ran j good =
+        sym (prefix_same (orders g ((world g events).got (Member 0))) (executed g ((world g events).got (Member j)))
+        (run_reaches (committed g ((world g events).got (Member j))) (orders g ((world g events).got (Member 0))) g.slots 1 short
+        (λ k t e. ap (committed g ((world g events).got (Member j))) (omega arith) ∙ commit k t e j good))
+        (stops j good))
+
+pub all_executed : AllExecuted
+all_executed g few lead events legal delivered i ok r c =
+    let st = settled g few lead events legal delivered in
+    subst (λ xs. Contains xs r) (sym (st.ran i ok)) (st.ordered r c)

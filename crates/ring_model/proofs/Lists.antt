@@ -7,6 +7,7 @@ use Rattle.std.proofs.lemmas.List.Sums.{sum_by-cons, sum_by-le-sum_by}
 use Rattle.std.proofs.lemmas.List.Elements.{Contains-append_left, Contains-append_right}
 use Rattle.ring_model.specs.History.{first_said, go_on, run_of}
 use Rattle.ring_model.specs.Laws.{IsPrefix}
+use Rattle.ring_model.proofs.History.{same_some}
 
 pub there_first : {X : Type 0} (x : X) (xs : List X) → Contains (x ∷ xs) x
 there_first x xs = (0, omega arith, refl)
@@ -52,6 +53,14 @@ filter_there {X} t (y ∷ xs) x c =
       | false ↦ λ d. there_later y xs x (filter_there t xs x d)
     ] c
 
+pub there_filter : {X : Type 0} (t : X → Bool) (xs : List X) (x : X) → Contains xs x → t x ≡ true → Contains (filter t xs) x
+there_filter t [] x c e = absurd (there_none x c)
+there_filter {X} t (y ∷ xs) x c e =
+    elim (t y) as (λ b. t y ≡ b → Contains (cond b (y ∷ filter t xs) (filter t xs)) x) [
+      | true ↦ λ _. ⊎_elim (λ same. subst (Contains (y ∷ filter t xs)) same (there_first y (filter t xs))) (λ d. there_later y (filter t xs) x (there_filter t xs x d e)) (there_cases y xs x c)
+      | false ↦ λ no. ⊎_elim (λ same. absurd (cc (no, ap t same, e))) (λ d. there_filter t xs x d e) (there_cases y xs x c)
+    ] refl
+
 pub any_there : {X : Type 0} (t : X → Bool) (xs : List X) (x : X) → Contains xs x → t x ≡ true → list_any t xs ≡ true
 any_there t [] x c e = absurd (there_none x c)
 any_there t (y ∷ xs) x c e =
@@ -73,6 +82,11 @@ pub at_there : {X : Type 0} (xs : List X) (x : X) → Contains xs x → (k : ℕ
 at_there [] x c = absurd (there_none x c)
 at_there (y ∷ xs) x c = ⊎_elim (λ e. (0, ap Some e)) (λ d. let r = at_there xs x d in (suc r.0, r.1)) (there_cases y xs x c)
 
+pub at_in : {X : Type 0} (xs : List X) (k : ℕ) (x : X) → slice_get xs k ≡ Some x → Contains xs x
+at_in [] k x e = absurd (cc e)
+at_in (y ∷ xs) zero x e = subst (Contains (y ∷ xs)) (same_some y x e) (there_first y xs)
+at_in (y ∷ xs) (suc k) x e = there_later y xs x (at_in xs k x e)
+
 pub at_short : {X : Type 0} (xs : List X) (k : ℕ) (x : X) → slice_get xs k ≡ Some x → k < length xs
 at_short [] k x e = absurd (cc e)
 at_short (y ∷ xs) zero x e = omega arith
@@ -82,6 +96,27 @@ pub at_some : {X : Type 0} (xs : List X) (k : ℕ) → k < length xs → (x : X)
 at_some [] k h = absurd (omega arith)
 at_some (y ∷ xs) zero h = (y, refl)
 at_some (y ∷ xs) (suc k) h = at_some xs k (omega arith)
+
+pub Each-from_there : {X : Type 0} (P : X → Type 0) (xs : List X) → ((x : X) → Contains xs x → P x) → Each P xs
+Each-from_there P [] f = tt
+Each-from_there P (x ∷ xs) f = (f x (there_first x xs), Each-from_there P xs (λ y c. f y (there_later x xs y c)))
+
+-- an entry that stands twice in a list stands twice among those that pass a test with it
+pub filter_twice : {X : Type 0} (t : X → Bool) (xs : List X) (a b : ℕ) (x : X) → a < b → slice_get xs a ≡ Some x → slice_get xs b ≡ Some x → t x ≡ true
+    → (i : ℕ) × (j : ℕ) × (i < j) × (slice_get (filter t xs) i ≡ Some x) × (slice_get (filter t xs) j ≡ Some x)
+filter_twice t [] a b x h ea eb p = absurd (cc ea)
+filter_twice t (y ∷ ys) a zero x h ea eb p = absurd (omega arith)
+filter_twice {X} t (y ∷ ys) zero (suc b) x h ea eb p =
+    let same : y ≡ x = same_some y x ea in
+    let r = at_there (filter t ys) x (there_filter t ys x (at_in ys b x eb) p) in
+    subst (λ v. (i : ℕ) × (j : ℕ) × (i < j) × (slice_get (cond v (y ∷ filter t ys) (filter t ys)) i ≡ Some x) × (slice_get (cond v (y ∷ filter t ys) (filter t ys)) j ≡ Some x)) (sym (ap t same ∙ p))
+    (0, suc r.0, omega arith, ea, r.1)
+filter_twice {X} t (y ∷ ys) (suc a) (suc b) x h ea eb p =
+    let r = filter_twice t ys a b x (omega arith) ea eb p in
+    elim (t y) as (λ v. (i : ℕ) × (j : ℕ) × (i < j) × (slice_get (cond v (y ∷ filter t ys) (filter t ys)) i ≡ Some x) × (slice_get (cond v (y ∷ filter t ys) (filter t ys)) j ≡ Some x)) [
+      | true ↦ (suc r.0, suc r.1, omega (arith, r.2), r.3, r.4)
+      | false ↦ r
+    ]
 
 -- ---- runs
 
@@ -99,14 +134,18 @@ run_split {Y} c (y ∷ ys) (suc n) s h =
           ∙ ap (λ i. ys ++ run_of c i (s + 1 + length ys)) (omega arith) ∙ ap (λ i. ys ++ run_of c (suc n - length (y ∷ ys)) i) (omega arith))
     ] h
 
-pub run_has : {Y : Type 0} (c : ℕ → Option Y) (n s k : ℕ) → k < length (run_of c n s) → (y : Y) × (c (s + k) ≡ Some y)
-run_has c zero s k h = absurd (omega arith)
-run_has {Y} c (suc n) s k h = at (c s) refl k h (λ j. run_has c n (s + 1) j)
+-- each entry of a run is what its place has
+pub run_at : {Y : Type 0} (c : ℕ → Option Y) (n s k : ℕ) (y : Y) → slice_get (run_of c n s) k ≡ Some y → c (s + k) ≡ Some y
+run_at c zero s k y e = absurd (cc e)
+run_at {Y} c (suc n) s k y e = at (c s) refl k e (λ j. run_at c n (s + 1) j y)
   where
-    at : (o : Option Y) → c s ≡ o → (k : ℕ) → k < length (go_on o (run_of c n (s + 1))) → ((j : ℕ) → j < length (run_of c n (s + 1)) → (y : Y) × (c (s + 1 + j) ≡ Some y)) → (y : Y) × (c (s + k) ≡ Some y)
-    at None e k h rest = absurd (omega arith)
-    at (Some y) e zero h rest = (y, ap c (omega arith) ∙ e)
-    at (Some y) e (suc k) h rest = let r = rest k (omega arith) in (r.0, ap c (omega arith) ∙ r.1)
+    at : (o : Option Y) → c s ≡ o → (k : ℕ) → slice_get (go_on o (run_of c n (s + 1))) k ≡ Some y → ((j : ℕ) → slice_get (run_of c n (s + 1)) j ≡ Some y → c (s + 1 + j) ≡ Some y) → c (s + k) ≡ Some y
+    at None here k e rest = absurd (cc e)
+    at (Some z) here zero e rest = ap c (omega arith) ∙ here ∙ e
+    at (Some z) here (suc k) e rest = ap c (omega arith) ∙ rest k e
+
+pub run_has : {Y : Type 0} (c : ℕ → Option Y) (n s k : ℕ) → k < length (run_of c n s) → (y : Y) × (c (s + k) ≡ Some y)
+run_has c n s k h = let r = at_some (run_of c n s) k h in (r.0, run_at c n s k r.0 r.1)
 
 pub run_same : {Y : Type 0} (a b : ℕ → Option Y) → ((s : ℕ) → a s ≡ b s) → (n s : ℕ) → run_of a n s ≡ run_of b n s
 run_same a b f zero s = refl
@@ -160,7 +199,7 @@ one_place k (suc n) a low high =
     omega (arith, sum_by-cons (λ c. cond (k == c) 1 0) a (range_with_len (a + 1) n), no, one_place k n (a + 1) (omega arith) (omega arith)))
     (cases_eq a k)
 
-all_zero : (xs : List ℕ) → sum_by (λ c. 0) xs ≡ 0
+pub all_zero : (xs : List ℕ) → sum_by (λ c. 0) xs ≡ 0
 all_zero [] = refl
 all_zero (x ∷ xs) = omega (arith, sum_by-cons (λ c. 0) x xs, all_zero xs)
 

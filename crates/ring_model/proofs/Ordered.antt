@@ -2,7 +2,7 @@
 use Rattle.std.proofs.Common.{◌≡◌, ℕ, ◌+◌, ◌-◌, ◌<◌, ◌≤◌, Bool, true, false, cond, ◌&&◌, ◌==◌, List, [], ◌∷◌, ◌++◌, length, slice_get, filter, count_by, Contains, Option, Some, None, ◌⊎◌, inl, inr, ⊎_elim, refl, sym, ap, ap₂, ◌∙◌, subst, subst₂, arith, append-nil}
 use Rattle.std.specs.List.{AllByRecursion as Each}
 use Rattle.std.specs.Option.{option_or}
-use Rattle.std.proofs.lemmas.Bool.{eqb-true, eq-eqb, ne_eqb, cases_eq, and_parts}
+use Rattle.std.proofs.lemmas.Bool.{eqb-true, eq-eqb, ne_eqb, cases_eq, and_parts, cases_lt}
 use Rattle.std.proofs.lemmas.List.{length_push}
 use Rattle.std.proofs.lemmas.List.Sums.{sum_by_push, length-filter}
 use Rattle.std.proofs.lemmas.List.Elements.{Contains-append_left, Contains-push, Contains-push_cases, filter-append}
@@ -13,7 +13,7 @@ use Rattle.ring_model.specs.World.{World, Event, Submit, Resubmit, Deliver, Forg
 use Rattle.ring_model.specs.Laws.{IsPrefix}
 use Rattle.ring_model.proofs.History.{same_some, said_holds, said_stays, run_grows, run_holds, Each-append}
 use Rattle.ring_model.proofs.Agreement.{said_by_parts}
-use Rattle.ring_model.proofs.Lists.{there_none, run_split, run_same, run_none}
+use Rattle.ring_model.proofs.Lists.{there_none, run_split, run_same, run_none, run_at, filter_twice}
 
 abbrev pub of_client : Ring → ℕ → List ℕ → Bool
 of_client g c t = g.owner t == c
@@ -197,3 +197,16 @@ client_orders g c (l ∷ older) =
             ∙ run_same (from_client g c older) (from_client g c (l ∷ older))
             (λ n. sym (deaf g c l older (λ e k. absurd (apart (eqb-true d c (subst (λ p. same_party p (Client c) ≡ true) ep e)))) n)) g.slots 1)
             (cases_eq d c)
+
+-- no request is ordered twice
+pub orders_once : (g : Ring) (got : List Letter) (a b : ℕ) (r : List ℕ) → slice_get (orders g got) a ≡ Some r → slice_get (orders g got) b ≡ Some r → a ≡ b
+orders_once g got a b r ea eb =
+    ⊎_elim (λ h. absurd (never a b h ea eb)) (λ above. ⊎_elim (λ h. absurd (never b a h eb ea)) (λ below. omega arith) (cases_lt b a)) (cases_lt a b)
+  where
+    place : (k : ℕ) → slice_get (filter (of_client g (g.owner r)) (orders g got)) k ≡ Some r → g.number r ≡ 1 + k
+    place k e = (from_is g (g.owner r) (1 + k) got r (run_at (from_client g (g.owner r) got) g.slots 1 k r (subst (λ xs. slice_get xs k ≡ Some r) (client_orders g (g.owner r) got) e))).1
+
+    never : (i j : ℕ) → i < j → slice_get (orders g got) i ≡ Some r → slice_get (orders g got) j ≡ Some r → ⊥
+    never i j h ei ej =
+        let t = filter_twice (of_client g (g.owner r)) (orders g got) i j r h ei ej (eq-eqb (g.owner r) (g.owner r) refl) in
+        omega (arith, t.2, place t.0 t.3, place t.1 t.4)

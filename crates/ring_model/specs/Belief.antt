@@ -1,7 +1,7 @@
 -- What a client believes.
 use Rattle.std.specs.Prelude.{ℕ, ◌+◌, cond, ◌==◌, ◌&&◌, nat_le, nat_lt, List, [], ◌∷◌, Option, Some, None, bytes_eq, is_some}
-use Rattle.std.specs.Option.{option_or}
-use Rattle.ring_model.specs.Messages.{Message, Reply, Heart, Sealed, Letter, Ring}
+use Rattle.std.specs.Option.{option_or, option_map}
+use Rattle.ring_model.specs.Messages.{Message, Reply, Heart, Sealed, Letter, Mark, Ring}
 use Rattle.ring_model.specs.History.{voters, passing}
 
 -- the outcome that a message gives to the request of number n
@@ -39,3 +39,12 @@ greater (Some v) (Some w) = cond (nat_lt v w) (Some w) (Some v)
 abbrev pub newest : Ring → List ℕ → List Letter → List Letter → Option ℕ
 newest g object all [] = None
 newest g object all (l ∷ ls) = greater (newest g object all ls) (passing (λ v. is_some (believed g (beating object v) all)) (beats_for object l.message))
+
+-- a version with the name that is believed of its root
+abbrev pub named : Ring → List ℕ → List Letter → Option ℕ → Option Mark
+named g object got None = None
+named g object got (Some v) = option_map (λ n. record { object = object; version = v; name = n }) (believed g (beating object v) got)
+
+-- A client's heart of an object is the believed heart of the greatest version.
+abbrev pub heart_of : Ring → List ℕ → List Letter → Option Mark
+heart_of g object got = named g object got (newest g object got got)

@@ -1,11 +1,11 @@
 -- What is claimed of every list of events.
-use Rattle.std.specs.Prelude.{◌≡◌, ℕ, ◌+◌, ◌-◌, ◌*◌, ◌<◌, ◌≤◌, Bool, true, false, not, ◌&&◌, List, ◌++◌, length, count_by, slice_get, Option, Some, Contains}
-use Rattle.std.specs.List.{AllByRecursion}
-use Rattle.ring_model.specs.Messages.{Party, Member, Client, Message, Request, PrePrepare, Prepare, Commit, Reply, Heart, Sealed, Foreign, Letter, Ring, members, FewFaulty}
-use Rattle.ring_model.specs.History.{is_name}
+use Rattle.std.specs.Prelude.{◌≡◌, ℕ, zero, suc, ◌+◌, ◌-◌, ◌*◌, ◌<◌, ◌≤◌, Bool, true, false, not, ◌&&◌, List, ◌++◌, length, take, count_by, slice_get, bytes_eq, Option, Some, None, Contains}
+use Rattle.std.specs.Option.{option_or}
+use Rattle.std.specs.List.{sum_by, AllByRecursion}
+use Rattle.ring_model.specs.Messages.{Party, Member, Client, Message, Request, PrePrepare, Prepare, Commit, Reply, Heart, Sealed, Foreign, Letter, Mark, Ring, members, FewFaulty}
+use Rattle.ring_model.specs.History.{is_name, passing}
 use Rattle.ring_model.specs.Member.{endorsed, prepared, committed, executed, executed_to, order_at}
-use Rattle.ring_model.specs.Belief.{believed, replied, beating, sealing}
-use Rattle.std.specs.List.{sum_by}
+use Rattle.ring_model.specs.Belief.{believed, replied, beating, sealing, heart_of}
 use Rattle.ring_model.specs.World.{World, Event, Submit, Resubmit, Deliver, Forge, Archive, world, IsParty, IsLegal, chosen}
 
 -- Two sets of 2f+1 of 3f+1 members share a correct one.
@@ -121,6 +121,25 @@ AllDelivered g w = AllByRecursion (λ x. IsHonest g x.from → IsHonest g x.to �
 abbrev pub AllExecuted : Type 0
 AllExecuted = (g : Ring) → FewFaulty g → g.is_faulty 0 ≡ false → (events : List Event) → IsLegal g events → AllDelivered g (world g events)
     → (i : ℕ) → IsCorrect g i → (r : List ℕ) → Contains (world g events).submits r → Contains (executed g ((world g events).got (Member i))) r
+
+-- Where member 0 is correct and all was delivered, each client believes the outcome of each of its requests, at a slot of the committed list that holds it.
+abbrev pub AllAnswered : Type 0
+AllAnswered = (g : Ring) → FewFaulty g → g.is_faulty 0 ≡ false → (events : List Event) → IsLegal g events → AllDelivered g (world g events) → (r : List ℕ) → Contains (world g events).submits r
+    → (xs : List (List ℕ)) × IsPrefix xs (chosen g (world g events)) × (slice_get xs (length xs - 1) ≡ Some r) × (believed g (replied (g.number r)) ((world g events).got (Client (g.owner r))) ≡ Some (g.outcome xs))
+
+-- The versions of an object rise along a list of requests.
+abbrev pub VersionsRise : Ring → Type 0
+VersionsRise g = (xs ys : List (List ℕ)) (m n : Mark) → IsPrefix xs ys → length xs < length ys → g.heart xs ≡ Some m → g.heart ys ≡ Some n → m.object ≡ n.object → m.version < n.version
+
+-- the last version of an object that the first n requests of a list make
+abbrev pub last_made : Ring → List ℕ → List (List ℕ) → ℕ → Option Mark
+last_made g o xs zero = None
+last_made g o xs (suc n) = option_or (passing (λ m. bytes_eq m.object o) (g.heart (take (suc n) xs))) (last_made g o xs n)
+
+-- Where member 0 is correct and all was delivered, each client's heart of an object is the last version that the committed list makes of it.
+abbrev pub AllTold : Type 0
+AllTold = (g : Ring) → FewFaulty g → VersionsRise g → g.is_faulty 0 ≡ false → (events : List Event) → IsLegal g events → AllDelivered g (world g events) → (c : ℕ) → c < g.clients → (o : List ℕ)
+    → heart_of g o ((world g events).got (Client c)) ≡ last_made g o (chosen g (world g events)) (length (chosen g (world g events)))
 
 -- how many messages an event that is no delivery adds at most
 abbrev pub adds : Ring → Event → ℕ

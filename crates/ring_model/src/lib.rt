@@ -9,7 +9,7 @@
 //! `all_executed`, `all_answered` and `all_told` for a run in which everything was delivered.
 #![tactic(auto)]
 
-ghost use Rattle.ring_model.specs.Laws.{QuorumsMeet, AllOwed, OneName, OnlySubmitted, Agrees, Grows, HeldByMany, BelievedIsOwed, BelievedHeart, BelievedSeal, BelievedReply, AllExecuted, FewSent, SentDeclared};
+ghost use Rattle.ring_model.specs.Laws.{QuorumsMeet, AllOwed, OneName, OnlySubmitted, Agrees, Grows, HeldByMany, BelievedIsOwed, BelievedHeart, BelievedSeal, BelievedReply, AllExecuted, AllAnswered, AllTold, FewSent, SentDeclared};
 
 /// Any two sets of 2f+1 of the 3f+1 members share a correct one, where at most f are faulty.
 pub fn quorums_meet()
@@ -72,6 +72,17 @@ pub fn believed_reply()
 /// Where member 0 is correct and all was delivered, each correct member has executed each submitted request.
 pub fn all_executed()
     ensures { AllExecuted }
+{}
+
+/// Where member 0 is correct and all was delivered, each client believes the outcome of each of its requests.
+pub fn all_answered()
+    ensures { AllAnswered }
+{}
+
+/// Where member 0 is correct and all was delivered, each client's heart of an object is the last
+/// version that the committed list makes of it, where the versions of an object rise.
+pub fn all_told()
+    ensures { AllTold }
 {}
 
 /// However often messages are delivered, no more than this many are ever sent.
