@@ -1,23 +1,22 @@
 -- Where all was delivered, clients believe the outcomes and the last versions.
-use Rattle.std.proofs.Common.{◌≡◌, ℕ, zero, suc, ◌+◌, ◌-◌, ◌*◌, ◌<◌, ◌≤◌, Bool, true, false, cond, ◌&&◌, ◌==◌, nat_le, nat_lt, List, [], ◌∷◌, ◌++◌, length, take, drop, slice_get, Contains, Option, Some, None, is_some, ◌⊎◌, inl, inr, ⊎_elim, bytes_eq, refl, sym, ap, ◌∙◌, subst, subst₂, arith, take-append-drop, not, map}
-use Rattle.std.specs.List.{AllByRecursion as Each, range_with_len}
+use Rattle.std.proofs.Common.{◌≡◌, ℕ, zero, suc, ◌+◌, ◌-◌, ◌*◌, ◌<◌, ◌≤◌, Bool, true, false, cond, ◌==◌, nat_le, nat_lt, List, [], ◌∷◌, length, take, drop, slice_get, Contains, Option, Some, None, is_some, ◌⊎◌, inl, inr, ⊎_elim, bytes_eq, refl, sym, ap, ◌∙◌, subst, arith, take-append-drop, not, map}
+use Rattle.std.specs.List.{range_with_len}
 use Rattle.std.specs.Option.{option_or, option_map}
 use Rattle.std.proofs.lemmas.Bool.{and_from, eq-eqb, leb-true, le-leb, ltb-true, ltb-false, cases_eq, cases_lt, not_from_false}
 use Rattle.std.proofs.lemmas.List.{length-take-le}
 use Rattle.std.proofs.lemmas.Slice.Eq.{bytes_eq-Decides}
-use Rattle.ring_model.specs.Messages.{Ring, Letter, Packet, Message, Request, Reply, Heart, Mark, Party, Member, Client, members, FewFaulty}
+use Rattle.ring_model.specs.Messages.{Ring, Letter, Packet, Message, Reply, Heart, Mark, Party, Member, Client, members, FewFaulty}
 use Rattle.ring_model.specs.History.{said_by, first_word, is_name, voters, passing}
 use Rattle.ring_model.specs.Member.{executed, first_of, executed_to, orders, answers, hearts}
 use Rattle.ring_model.specs.Belief.{believed, replied, beating, beats_for, greater, newest, named, heart_of}
-use Rattle.ring_model.specs.World.{World, Event, world, IsLegal, correct, chosen}
-use Rattle.ring_model.specs.Laws.{IsPrefix, Owes, Right, IsSound, IsCorrect, AllDelivered, AllAnswered, VersionsRise, last_made, AllTold}
+use Rattle.ring_model.specs.World.{World, world, correct, chosen}
+use Rattle.ring_model.specs.Laws.{IsPrefix, Owes, Right, IsSound, IsCorrect, AllAnswered, VersionsRise, last_made, AllTold}
 use Rattle.ring_model.proofs.History.{same_some, said_holds, passing_parts, passing_from, is_name_true, count_grows, enough_grows, first_of_parts, first_of_from}
 use Rattle.ring_model.proofs.Stays.{at_stays}
 use Rattle.ring_model.proofs.Agreement.{said_by_parts, longest_long, prefix_same}
 use Rattle.ring_model.proofs.Chosen.{all_correct, at_correct, longest_of}
 use Rattle.ring_model.proofs.Believed.{believed_right, beating_is, replied_is, client_is}
-use Rattle.ring_model.proofs.Lists.{there_none, there_first, there_later, there_cases, there_map, there_range, at_there, at_in, at_short, at_some, all_zero}
-use Rattle.ring_model.proofs.Complete.{IsComplete}
+use Rattle.ring_model.proofs.Lists.{there_none, there_later, there_cases, there_map, there_range, at_there, at_in, at_short, at_some, all_zero}
 use Rattle.ring_model.proofs.Ordered.{orders_once}
 use Rattle.ring_model.proofs.Full.{enough_votes, at_own, IsSettled, settled}
 
@@ -299,7 +298,7 @@ all_told g few rise lead events legal delivered c known o =
 
     nothing : last_made g o (orders g ((world g events).got (Member 0))) (length (orders g ((world g events).got (Member 0)))) ≡ None
         → (u : Option ℕ) → newest g o ((world g events).got (Client c)) ((world g events).got (Client c)) ≡ u → named g o ((world g events).got (Client c)) u ≡ None
-    nothing e None is = refl
+    nothing e None _ = refl
     nothing e (Some u) is =
         let n = is_there (believed g (beating o u) got) (newest_from g o got got u is) in
         let made = heart_made g few (world g events) st (Client c) o u n.0 n.1 in

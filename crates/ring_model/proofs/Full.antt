@@ -1,10 +1,9 @@
 -- Where all was delivered, all was executed.
-use Rattle.std.proofs.Common.{◌≡◌, ℕ, zero, suc, ◌+◌, ◌-◌, ◌*◌, ◌<◌, ◌≤◌, Bool, true, false, cond, ◌==◌, nat_le, List, [], ◌∷◌, length, slice_get, filter, count_by, Contains, Option, Some, None, ◌⊎◌, inl, inr, ⊎_elim, bytes_eq, refl, sym, ap, ◌∙◌, subst, subst₂, arith}
-use Rattle.std.specs.List.{list_any, AllByRecursion as Each}
+use Rattle.std.proofs.Common.{◌≡◌, ℕ, zero, suc, ◌+◌, ◌-◌, ◌*◌, ◌<◌, ◌≤◌, Bool, true, false, cond, ◌==◌, nat_le, List, [], ◌∷◌, length, slice_get, count_by, Contains, Option, Some, None, ◌⊎◌, inl, inr, ⊎_elim, bytes_eq, refl, sym, ap, ◌∙◌, subst, subst₂, arith}
+use Rattle.std.specs.List.{list_any}
 use Rattle.std.proofs.lemmas.Bool.{eqb-true, eq-eqb, and_from, le-leb, cases_Bool, cases_lt}
 use Rattle.std.proofs.lemmas.List.Sums.{sum_by-cons, length-filter, count_by-le-length}
 use Rattle.std.proofs.lemmas.List.FromFn.{length-range_with_len}
-use Rattle.std.proofs.lemmas.List.Elements.{Contains-append_left}
 use Rattle.std.proofs.lemmas.Slice.Eq.{bytes_eq-Decides}
 use Rattle.ring_model.specs.Messages.{Ring, Letter, Packet, Message, Request, PrePrepare, Prepare, Commit, Member, Client, members, FewFaulty}
 use Rattle.ring_model.specs.History.{said_by, first_word, is_name, voters, run_of}
@@ -15,7 +14,7 @@ use Rattle.ring_model.proofs.History.{same_some, said_holds, passing_from, run_h
 use Rattle.ring_model.proofs.Counting.{in_range}
 use Rattle.ring_model.proofs.Owed.{all_owed}
 use Rattle.ring_model.proofs.Agreement.{said_by_parts, word_right, prepares_is, commits_is, committed_parts, prefix_same}
-use Rattle.ring_model.proofs.Lists.{there_none, there_first, there_later, there_cases, Each-there, filter_there, any_there, said_there, at_short, run_has, run_reaches, run_there, short_by_owner, Each-from_there, there_filter, at_in}
+use Rattle.ring_model.proofs.Lists.{there_first, there_later, Each-there, filter_there, any_there, said_there, at_short, run_has, run_reaches, run_there, short_by_owner, Each-from_there, there_filter, at_in}
 use Rattle.ring_model.proofs.Complete.{IsComplete, all_complete, to_all}
 use Rattle.ring_model.proofs.Ordered.{of_client, IsNumbered, all_numbered, from_client, from_is, numbered_is, client_orders}
 

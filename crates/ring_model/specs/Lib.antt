@@ -4,3 +4,4 @@ pub mod Member
 pub mod World
 pub mod Belief
 pub mod Laws
+pub mod Schedules

@@ -10,6 +10,7 @@
 #![tactic(auto)]
 
 ghost use Rattle.ring_model.specs.Laws.{QuorumsMeet, AllOwed, OneName, OnlySubmitted, Agrees, Grows, HeldByMany, BelievedIsOwed, BelievedHeart, BelievedSeal, BelievedReply, AllExecuted, AllAnswered, AllTold, FewSent, SentDeclared};
+ghost use Rattle.ring_model.specs.Schedules.{PrimaryOrdersTwice, PrimaryEquivocates, TwoSendersAreNotThree, MutedMember, PreparedIsNotCommitted};
 
 /// Any two sets of 2f+1 of the 3f+1 members share a correct one, where at most f are faulty.
 pub fn quorums_meet()
@@ -93,4 +94,31 @@ pub fn few_sent()
 /// Each message that was sent goes from a declared party to a declared party.
 pub fn sent_declared()
     ensures { SentDeclared }
+{}
+
+/// A primary that is faulty orders one request twice: it is executed in both slots and changes
+/// nothing the second time.
+pub fn primary_orders_twice()
+    ensures { PrimaryOrdersTwice }
+{}
+
+/// A primary that is faulty orders two requests in one slot and votes for the second: that one alone
+/// is executed.
+pub fn primary_equivocates()
+    ensures { PrimaryEquivocates }
+{}
+
+/// Two senders are not three, however often one of them votes.
+pub fn two_senders_are_not_three()
+    ensures { TwoSendersAreNotThree }
+{}
+
+/// Three of four members execute what the fourth is told nothing of.
+pub fn muted_member()
+    ensures { MutedMember }
+{}
+
+/// A slot that is prepared at a member is not executed there before it is committed.
+pub fn prepared_is_not_committed()
+    ensures { PreparedIsNotCommitted }
 {}
