@@ -1,9 +1,9 @@
 -- The schedules, computed.
-use Rattle.std.proofs.Common.{◌≡◌, ◌+◌, ◌*◌, Bool, true, false, ◌==◌, ◌&&◌, nat_lt, List, [], ◌∷◌, length, count_by, refl}
+use Rattle.std.proofs.Common.{◌≡◌, ◌+◌, ◌*◌, Bool, true, false, ◌==◌, ◌&&◌, nat_lt, List, [], ◌∷◌, ◌++◌, length, count_by, refl}
 use Rattle.std.proofs.lemmas.Bool.{and_parts, eqb-true, ltb-true}
 use Rattle.ring_model.specs.Messages.{Ring, Party, Member, Client}
 use Rattle.ring_model.specs.World.{World, Event, Submit, Resubmit, Deliver, Forge, Archive, happens, world, IsParty, MayHappen, IsLegal}
-use Rattle.ring_model.specs.Schedules.{four, later, twice, voted, two_senders, muted, found, PrimaryOrdersTwice, PrimaryEquivocates, TwoSendersAreNotThree, MutedMember, PreparedIsNotCommitted}
+use Rattle.ring_model.specs.Schedules.{four, later, twice, voted, two_senders, muted, found, PrimaryOrdersTwice, PrimaryEquivocates, TwoSendersAreNotThree, MutedMember, PreparedIsNotCommitted, FirstOrderStands, OrderedByNumber, OneHeartIsNotBelieved, reordered, hurried, one_heart, from_each}
 
 is_party : Ring → Party → Bool
 is_party g (Member i) = nat_lt i (3 * g.f + 1)
@@ -65,3 +65,15 @@ muted_member = (legal (four 4 1) [] muted refl tt, refl, refl, refl)
 pub prepared_is_not_committed : PreparedIsNotCommitted
 unfolding all_may may is_party
 prepared_is_not_committed = (legal (four 4 1) [] found refl tt, refl, refl, refl, refl)
+
+pub first_order_stands : FirstOrderStands
+unfolding all_may may is_party
+first_order_stands = (legal (four 0 2) [] (reordered ++ Deliver (Client 0) (Member 1) 0 ∷ []) refl tt, refl, refl)
+
+pub ordered_by_number : OrderedByNumber
+unfolding all_may may is_party
+ordered_by_number = (legal (four 4 1) [] (hurried ++ Deliver (Client 0) (Member 0) 0 ∷ []) refl tt, refl, refl)
+
+pub one_heart_is_not_believed : OneHeartIsNotBelieved
+unfolding all_may may is_party
+one_heart_is_not_believed = (legal (four 3 1) [] (one_heart ++ from_each (1 ∷ []) 0 1) refl tt, refl, refl)

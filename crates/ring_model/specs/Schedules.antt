@@ -1,8 +1,8 @@
 -- Runs of a ring of four members, computed by the definitions.
 use Rattle.std.specs.Prelude.{◌≡◌, ℕ, suc, ◌-◌, Bool, cond, ◌==◌, List, [], ◌∷◌, ◌++◌, length, map, take, get_or, slice_index, bytes_eq, Some, None, refl}
 use Rattle.std.specs.List.{list_any}
-use Rattle.ring_model.specs.Messages.{Party, Member, Client, PrePrepare, Prepare, Commit, Foreign, Mark, Ring}
-use Rattle.ring_model.specs.Member.{endorsed, prepared, executed}
+use Rattle.ring_model.specs.Messages.{Party, Member, Client, PrePrepare, Prepare, Commit, Heart, Foreign, Mark, Ring}
+use Rattle.ring_model.specs.Member.{endorsed, prepared, executed, orders}
 use Rattle.ring_model.specs.World.{Event, Submit, Deliver, Forge, World, world, IsLegal}
 use Rattle.ring_model.specs.Belief.{believed, replied, heart_of}
 
@@ -184,3 +184,43 @@ PreparedIsNotCommitted =
     × (executed (four 4 1) ((ran (four 4 1) lost).got (Member 0)) ≡ [])
     × (executed (four 4 1) ((ran (four 4 1) lost).got (Member 1)) ≡ a ∷ [])
     × (executed (four 4 1) ((ran (four 4 1) found).got (Member 0)) ≡ a ∷ [])
+
+-- A faulty primary orders two requests in one slot at member 1, which has the second from its client.
+abbrev pub reordered : List Event
+reordered =
+    Submit a ∷ Submit b ∷ Forge 0 (Member 1) (PrePrepare 1 a) ∷ Forge 0 (Member 1) (PrePrepare 1 b)
+    ∷ Deliver (Member 0) (Member 1) 0 ∷ Deliver (Client 1) (Member 1) 0 ∷ Deliver (Member 0) (Member 1) 1 ∷ []
+
+-- The first order counts, and only once its request comes.
+abbrev pub FirstOrderStands : Type 0
+FirstOrderStands =
+    IsLegal (four 0 2) (later [] (reordered ++ Deliver (Client 0) (Member 1) 0 ∷ []))
+    × (endorsed (four 0 2) ((ran (four 0 2) reordered).got (Member 1)) 1 ≡ None)
+    × (endorsed (four 0 2) ((ran (four 0 2) (reordered ++ Deliver (Client 0) (Member 1) 0 ∷ [])).got (Member 1)) 1 ≡ Some a)
+
+-- The second request of client 0 comes to member 0 before the first.
+abbrev pub hurried : List Event
+hurried = Submit a ∷ Submit (0 ∷ 2 ∷ 7 ∷ []) ∷ Deliver (Client 0) (Member 0) 1 ∷ []
+
+-- It is ordered after the first.
+abbrev pub OrderedByNumber : Type 0
+OrderedByNumber =
+    IsLegal (four 4 1) (later [] (hurried ++ Deliver (Client 0) (Member 0) 0 ∷ []))
+    × (orders (four 4 1) ((ran (four 4 1) hurried).got (Member 0)) ≡ [])
+    × (orders (four 4 1) ((ran (four 4 1) (hurried ++ Deliver (Client 0) (Member 0) 0 ∷ [])).got (Member 0)) ≡ a ∷ (0 ∷ 2 ∷ 7 ∷ []) ∷ [])
+
+-- Member 3 forges a heart twice, and those of members 1 and 2 are lost.
+abbrev pub one_heart : List Event
+one_heart =
+    Submit a ∷ Forge 3 (Client 0) (Heart object 1 (7 ∷ [])) ∷ Forge 3 (Client 0) (Heart object 1 (7 ∷ []))
+    ∷ to_each all (Client 0) 0 ++ from_each (3 ∷ []) 0 0 ++ from_each (3 ∷ []) 0 1 ++ to_each all (Member 0) 0
+    ++ to_each all (Member 0) 1 ++ to_each all (Member 1) 0 ++ to_each all (Member 2) 0
+    ++ to_each all (Member 0) 2 ++ to_each all (Member 1) 1 ++ to_each all (Member 2) 1
+    ++ from_each but_3 0 0 ++ from_each (0 ∷ []) 0 1
+
+-- No heart is believed before a second member sends it.
+abbrev pub OneHeartIsNotBelieved : Type 0
+OneHeartIsNotBelieved =
+    IsLegal (four 3 1) (later [] (one_heart ++ from_each (1 ∷ []) 0 1))
+    × (heart_of (four 3 1) object ((ran (four 3 1) one_heart).got (Client 0)) ≡ None)
+    × (heart_of (four 3 1) object ((ran (four 3 1) (one_heart ++ from_each (1 ∷ []) 0 1)).got (Client 0)) ≡ Some (version 1 a))

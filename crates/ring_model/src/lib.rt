@@ -10,7 +10,7 @@
 #![tactic(auto)]
 
 ghost use Rattle.ring_model.specs.Laws.{QuorumsMeet, AllOwed, OneName, OnlySubmitted, Agrees, Grows, HeldByMany, BelievedIsOwed, BelievedHeart, BelievedSeal, BelievedReply, AllExecuted, AllAnswered, AllTold, FewSent, SentDeclared};
-ghost use Rattle.ring_model.specs.Schedules.{PrimaryOrdersTwice, PrimaryEquivocates, TwoSendersAreNotThree, MutedMember, PreparedIsNotCommitted};
+ghost use Rattle.ring_model.specs.Schedules.{PrimaryOrdersTwice, PrimaryEquivocates, TwoSendersAreNotThree, MutedMember, PreparedIsNotCommitted, FirstOrderStands, OrderedByNumber, OneHeartIsNotBelieved};
 
 /// Any two sets of 2f+1 of the 3f+1 members share a correct one, where at most f are faulty.
 pub fn quorums_meet()
@@ -121,4 +121,19 @@ pub fn muted_member()
 /// A slot that is prepared at a member is not executed there before it is committed.
 pub fn prepared_is_not_committed()
     ensures { PreparedIsNotCommitted }
+{}
+
+/// Of two orders for one slot the first counts, and only once its request came from its client.
+pub fn first_order_stands()
+    ensures { FirstOrderStands }
+{}
+
+/// The primary orders a client's requests by their numbers, however they come.
+pub fn ordered_by_number()
+    ensures { OrderedByNumber }
+{}
+
+/// A heart from one correct member is not believed, nor one that a faulty member sends twice.
+pub fn one_heart_is_not_believed()
+    ensures { OneHeartIsNotBelieved }
 {}
