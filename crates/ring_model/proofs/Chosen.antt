@@ -8,11 +8,12 @@ use Rattle.ring_model.specs.Messages.{Ring, Packet, Commit, Mark, Party, Member,
 use Rattle.ring_model.specs.History.{first_word, is_name, voters}
 use Rattle.ring_model.specs.Member.{prepares, commits, endorsed, prepared, committed, executed}
 use Rattle.ring_model.specs.World.{World, Event, Submit, Resubmit, Deliver, Forge, Archive, between, came, turned, happens, world, correct, longest, chosen}
-use Rattle.ring_model.specs.Laws.{IsPrefix, NoClash, IsSound, IsCorrect, Agrees, Grows, HeldByMany, is_held}
+use Rattle.ring_model.specs.Laws.{IsPrefix, NoClash, IsSound, IsCorrect, Agrees, Grows, HeldByMany, ChosenIsHeld, is_held}
 use Rattle.ring_model.proofs.History.{passing_parts, is_name_true, prefix_self, prefix_trans, run_agrees, Each-weaker}
 use Rattle.ring_model.proofs.Stays.{executed_grows}
 use Rattle.ring_model.proofs.Owed.{all_owed}
 use Rattle.ring_model.proofs.Agreement.{longest_long, prefix_whole, one_request, word_right, commits_is, endorsed_submitted, committed_parts}
+use Rattle.ring_model.proofs.Lists.{run_at}
 
 -- ---- the correct members
 
@@ -162,3 +163,10 @@ held g few w sound clear j s r e =
 
 pub held_always : HeldByMany
 held_always g few events legal clear j s r e = held g few (world g events) (all_owed g events legal) clear j s r e
+
+pub chosen_is_held : ChosenIsHeld
+chosen_is_held g few events legal clear k r e = pick (longest_of (IsCorrect g) (ran g (world g events)) (correct g) (all_correct g))
+  where
+    pick : (chosen g (world g events) ≡ []) ⊎ ((j : ℕ) × IsCorrect g j × (chosen g (world g events) ≡ ran g (world g events) j)) → g.f + 1 ≤ count_by (is_held g (world g events) (1 + k) r) (members g)
+    pick (inl none) = absurd (cc (ap (λ xs. slice_get xs k) (sym none) ∙ e))
+    pick (inr j) = held_always g few events legal clear (Member j.0) (1 + k) r (run_at (committed g ((world g events).got (Member j.0))) g.slots 1 k r (ap (λ xs. slice_get xs k) (sym j.2) ∙ e))

@@ -80,6 +80,11 @@ abbrev pub HeldByMany : Type 0
 HeldByMany = (g : Ring) → FewFaulty g → (events : List Event) → IsLegal g events → NoClash g (world g events).submits → (j : Party) (s : ℕ) (r : List ℕ)
     → committed g ((world g events).got j) s ≡ Some r → g.f + 1 ≤ count_by (is_held g (world g events) s r) (members g)
 
+-- So is each request of the committed list, in its slot.
+abbrev pub ChosenIsHeld : Type 0
+ChosenIsHeld = (g : Ring) → FewFaulty g → (events : List Event) → IsLegal g events → NoClash g (world g events).submits → (k : ℕ) (r : List ℕ)
+    → slice_get (chosen g (world g events)) k ≡ Some r → g.f + 1 ≤ count_by (is_held g (world g events) (1 + k) r) (members g)
+
 -- a correct member
 abbrev pub IsCorrect : Ring → ℕ → Type 0
 IsCorrect g i = (i < 3 * g.f + 1) × (g.is_faulty i ≡ false)

@@ -9,7 +9,7 @@
 //! `all_executed`, `all_answered` and `all_told` for a run in which everything was delivered.
 #![tactic(auto)]
 
-ghost use Rattle.ring_model.specs.Laws.{QuorumsMeet, AllOwed, OneName, OnlySubmitted, Agrees, Grows, HeldByMany, BelievedIsOwed, BelievedHeart, BelievedSeal, BelievedReply, AllExecuted, AllAnswered, AllTold, FewSent, SentDeclared};
+ghost use Rattle.ring_model.specs.Laws.{QuorumsMeet, AllOwed, OneName, OnlySubmitted, Agrees, Grows, HeldByMany, ChosenIsHeld, BelievedIsOwed, BelievedHeart, BelievedSeal, BelievedReply, AllExecuted, AllAnswered, AllTold, FewSent, SentDeclared};
 ghost use Rattle.ring_model.specs.Schedules.{PrimaryOrdersTwice, PrimaryEquivocates, TwoSendersAreNotThree, MutedMember, PreparedIsNotCommitted, FirstOrderStands, OrderedByNumber, OneHeartIsNotBelieved};
 
 /// Any two sets of 2f+1 of the 3f+1 members share a correct one, where at most f are faulty.
@@ -48,6 +48,11 @@ pub fn grows()
 /// members.
 pub fn held_by_many()
     ensures { HeldByMany }
+{}
+
+/// Each request of the committed list is prepared in its slot at f+1 correct members.
+pub fn chosen_is_held()
+    ensures { ChosenIsHeld }
 {}
 
 /// Whatever a client believes, of whatever kind of message, some correct member owes it to that client.
