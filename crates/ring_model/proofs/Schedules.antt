@@ -56,11 +56,11 @@ primary_equivocates = (legal (four 0 2) [] voted refl tt, refl, refl, refl, refl
 
 pub two_senders_are_not_three : TwoSendersAreNotThree
 unfolding all_may may is_party
-two_senders_are_not_three = (legal (four 3 1) [] two_senders refl tt, refl, refl, refl)
+two_senders_are_not_three = (legal (four 3 1) [] two_senders refl tt, refl, refl, refl, refl)
 
 pub muted_member : MutedMember
 unfolding all_may may is_party
-muted_member = (legal (four 4 1) [] muted refl tt, refl, refl, refl)
+muted_member = (legal (four 4 1) [] muted refl tt, refl, refl, refl, refl)
 
 pub prepared_is_not_committed : PreparedIsNotCommitted
 unfolding all_may may is_party

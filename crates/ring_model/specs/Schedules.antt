@@ -1,7 +1,7 @@
 -- Runs of a ring of four members, computed by the definitions.
 use Rattle.std.specs.Prelude.{◌≡◌, ℕ, suc, ◌-◌, Bool, cond, ◌==◌, List, [], ◌∷◌, ◌++◌, length, map, take, get_or, slice_index, bytes_eq, Some, None, refl}
 use Rattle.std.specs.List.{list_any}
-use Rattle.ring_model.specs.Messages.{Party, Member, Client, PrePrepare, Prepare, Commit, Heart, Foreign, Mark, Ring}
+use Rattle.ring_model.specs.Messages.{Party, Member, Client, Request, PrePrepare, Prepare, Commit, Heart, Foreign, Mark, Ring}
 use Rattle.ring_model.specs.Member.{endorsed, prepared, executed, orders}
 use Rattle.ring_model.specs.World.{Event, Submit, Deliver, Forge, World, world, IsLegal}
 use Rattle.ring_model.specs.Belief.{believed, replied, heart_of}
@@ -133,18 +133,19 @@ PrimaryEquivocates =
     × (believed (four 0 2) (replied 1) ((ran (four 0 2) voted).got (Client 1)) ≡ Some (1 ∷ []))
     × (heart_of (four 0 2) object ((ran (four 0 2) voted).got (Client 0)) ≡ Some (version 1 b))
 
--- Members 1 and 2 are sent nothing, and member 3, which is faulty, votes twice at member 0.
+-- Nothing is delivered to members 1 and 2; member 3, which is faulty, votes twice at member 0, and orders the request in a second slot.
 abbrev pub two_senders : List Event
 two_senders =
     Submit a ∷ to_each (0 ∷ 3 ∷ []) (Client 0) 0 ++ to_each (0 ∷ 3 ∷ []) (Member 0) 0 ++ to_each (0 ∷ 3 ∷ []) (Member 0) 1
-    ++ Forge 3 (Member 0) (Prepare 1 (called a)) ∷ Forge 3 (Member 0) (Prepare 1 (called a)) ∷ Forge 3 (Member 0) (Commit 1 (called a)) ∷ Forge 3 (Member 0) (Commit 1 (called a)) ∷ Forge 3 (Member 0) Foreign
-    ∷ map (λ k. Deliver (Member 3) (Member 0) k) (0 ∷ 1 ∷ 2 ∷ 3 ∷ 4 ∷ [])
+    ++ Forge 3 (Member 0) (Prepare 1 (called a)) ∷ Forge 3 (Member 0) (Prepare 1 (called a)) ∷ Forge 3 (Member 0) (Commit 1 (called a)) ∷ Forge 3 (Member 0) (Commit 1 (called a)) ∷ Forge 3 (Member 0) Foreign ∷ Forge 3 (Member 0) (PrePrepare 2 a)
+    ∷ map (λ k. Deliver (Member 3) (Member 0) k) (0 ∷ 1 ∷ 2 ∷ 3 ∷ 4 ∷ 5 ∷ [])
 
--- The slot is endorsed, and neither prepared nor executed.
+-- The slot is endorsed, and neither prepared nor executed; the second slot isn't endorsed.
 abbrev pub TwoSendersAreNotThree : Type 0
 TwoSendersAreNotThree =
     IsLegal (four 3 1) (later [] two_senders)
     × (endorsed (four 3 1) ((ran (four 3 1) two_senders).got (Member 0)) 1 ≡ Some a)
+    × (endorsed (four 3 1) ((ran (four 3 1) two_senders).got (Member 0)) 2 ≡ None)
     × (prepared (four 3 1) ((ran (four 3 1) two_senders).got (Member 0)) 1 ≡ None)
     × (executed (four 3 1) ((ran (four 3 1) two_senders).got (Member 0)) ≡ [])
 
@@ -156,12 +157,13 @@ muted =
     ++ to_each but_3 (Member 0) 2 ++ to_each but_3 (Member 1) 1 ++ to_each but_3 (Member 2) 1
     ++ from_each but_3 0 0 ++ from_each but_3 0 1
 
--- The other three members execute the request, and its client has the heart of its version.
+-- The other three members execute the request, and its client has the heart of its version; each sends its votes, its Reply and its Heart once.
 abbrev pub MutedMember : Type 0
 MutedMember =
     IsLegal (four 4 1) (later [] muted)
     × (executed (four 4 1) ((ran (four 4 1) muted).got (Member 0)) ≡ a ∷ [])
     × (executed (four 4 1) ((ran (four 4 1) muted).got (Member 3)) ≡ [])
+    × (length (ran (four 4 1) muted).sent ≡ 38)
     × (heart_of (four 4 1) object ((ran (four 4 1) muted).got (Client 0)) ≡ Some (version 1 a))
 
 -- The Commits of members 1 and 2 to member 0 are lost.
@@ -185,13 +187,13 @@ PreparedIsNotCommitted =
     × (executed (four 4 1) ((ran (four 4 1) lost).got (Member 1)) ≡ a ∷ [])
     × (executed (four 4 1) ((ran (four 4 1) found).got (Member 0)) ≡ a ∷ [])
 
--- A faulty primary orders two requests in one slot at member 1, which has the second from its client.
+-- A faulty primary orders two requests in one slot at member 1, and sends it the first as if it were the client; the second came from its client.
 abbrev pub reordered : List Event
 reordered =
-    Submit a ∷ Submit b ∷ Forge 0 (Member 1) (PrePrepare 1 a) ∷ Forge 0 (Member 1) (PrePrepare 1 b)
-    ∷ Deliver (Member 0) (Member 1) 0 ∷ Deliver (Client 1) (Member 1) 0 ∷ Deliver (Member 0) (Member 1) 1 ∷ []
+    Submit a ∷ Submit b ∷ Forge 0 (Member 1) (PrePrepare 1 a) ∷ Forge 0 (Member 1) (PrePrepare 1 b) ∷ Forge 0 (Member 1) (Request a)
+    ∷ Deliver (Member 0) (Member 1) 0 ∷ Deliver (Client 1) (Member 1) 0 ∷ Deliver (Member 0) (Member 1) 1 ∷ Deliver (Member 0) (Member 1) 2 ∷ []
 
--- The first order counts, and only once its request comes.
+-- The first order counts, and only once its request comes from its client.
 abbrev pub FirstOrderStands : Type 0
 FirstOrderStands =
     IsLegal (four 0 2) (later [] (reordered ++ Deliver (Client 0) (Member 1) 0 ∷ []))
