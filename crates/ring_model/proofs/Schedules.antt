@@ -60,11 +60,11 @@ two_senders_are_not_three = (legal (four 3 1) [] two_senders refl tt, refl, refl
 
 pub muted_member : MutedMember
 unfolding all_may may is_party
-muted_member = (legal (four 4 1) [] muted refl tt, refl, refl, refl, refl)
+muted_member = (legal (four 4 1) [] muted refl tt, refl, refl, refl)
 
 pub prepared_is_not_committed : PreparedIsNotCommitted
 unfolding all_may may is_party
-prepared_is_not_committed = (legal (four 4 1) [] found refl tt, refl, refl, refl, refl)
+prepared_is_not_committed = (legal (four 4 1) [] found refl tt, refl, refl, refl, refl, refl)
 
 pub first_order_stands : FirstOrderStands
 unfolding all_may may is_party

@@ -157,13 +157,12 @@ muted =
     ++ to_each but_3 (Member 0) 2 ++ to_each but_3 (Member 1) 1 ++ to_each but_3 (Member 2) 1
     ++ from_each but_3 0 0 ++ from_each but_3 0 1
 
--- The other three members execute the request, and its client has the heart of its version; each sends its votes, its Reply and its Heart once.
+-- The other three members execute the request, and its client has the heart of its version.
 abbrev pub MutedMember : Type 0
 MutedMember =
     IsLegal (four 4 1) (later [] muted)
     × (executed (four 4 1) ((ran (four 4 1) muted).got (Member 0)) ≡ a ∷ [])
     × (executed (four 4 1) ((ran (four 4 1) muted).got (Member 3)) ≡ [])
-    × (length (ran (four 4 1) muted).sent ≡ 38)
     × (heart_of (four 4 1) object ((ran (four 4 1) muted).got (Client 0)) ≡ Some (version 1 a))
 
 -- The Commits of members 1 and 2 to member 0 are lost.
@@ -178,7 +177,7 @@ lost =
 abbrev pub found : List Event
 found = lost ++ Deliver (Member 1) (Member 0) 1 ∷ []
 
--- Member 0 has the slot prepared, and executes it only once a third Commit comes.
+-- Member 0 has the slot prepared, and executes it only once a third Commit comes. All send what they owe once, whatever comes after.
 abbrev pub PreparedIsNotCommitted : Type 0
 PreparedIsNotCommitted =
     IsLegal (four 4 1) (later [] found)
@@ -186,6 +185,7 @@ PreparedIsNotCommitted =
     × (executed (four 4 1) ((ran (four 4 1) lost).got (Member 0)) ≡ [])
     × (executed (four 4 1) ((ran (four 4 1) lost).got (Member 1)) ≡ a ∷ [])
     × (executed (four 4 1) ((ran (four 4 1) found).got (Member 0)) ≡ a ∷ [])
+    × (length (ran (four 4 1) found).sent ≡ 48)
 
 -- A faulty primary orders two requests in one slot at member 1, and sends it the first as if it were the client; the second came from its client.
 abbrev pub reordered : List Event
