@@ -74,12 +74,6 @@ take_keeps zero k (x ∷ ys) y h e = absurd (omega arith)
 take_keeps (suc n) zero (x ∷ ys) y h e = e
 take_keeps (suc n) (suc k) (x ∷ ys) y h e = take_keeps n k ys y (omega arith) e
 
-take_prefix : {Y : Type 0} (a b : ℕ) (ys : List Y) → a ≤ b → IsPrefix (take a ys) (take b ys)
-take_prefix zero b ys h = (take b ys, refl)
-take_prefix (suc a) zero ys h = absurd (omega arith)
-take_prefix (suc a) (suc b) [] h = ([], refl)
-take_prefix (suc a) (suc b) (y ∷ ys) h = let r = take_prefix a b ys (omega arith) in (r.0, ap (λ zs. y ∷ zs) r.1)
-
 -- the last of the first s stands at place s
 last_place : {Y : Type 0} (s : ℕ) (ys : List Y) (y : Y) → 1 ≤ s → s ≤ length ys → slice_get (take s ys) (length (take s ys) - 1) ≡ Some y → slice_get ys (s - 1) ≡ Some y
 last_place s ys y low high e =
@@ -160,13 +154,13 @@ all_answered g few lead events legal delivered r c =
 -- ---- the last version
 
 -- two versions of one object and number on one list are one
-same_version : (g : Ring) → VersionsRise g → (ys : List (List ℕ)) (a b : ℕ) (m n : Mark) → a ≤ length ys → b ≤ length ys
+same_version : (g : Ring) (ys : List (List ℕ)) → VersionsRise g ys → (a b : ℕ) (m n : Mark) → a ≤ length ys → b ≤ length ys
     → g.heart (take a ys) ≡ Some m → g.heart (take b ys) ≡ Some n → m.object ≡ n.object → m.version ≡ n.version → m ≡ n
-same_version g rise ys a b m n la lb ha hb o v =
+same_version g ys rise a b m n la lb ha hb o v =
     ⊎_elim
-    (λ less. absurd (omega (arith, v, rise (take a ys) (take b ys) m n (take_prefix a b ys (omega arith)) (omega (arith, less, length-take-le a ys la, length-take-le b ys lb)) ha hb o)))
+    (λ less. absurd (omega (arith, v, rise a b m n less lb ha hb o)))
     (λ above. ⊎_elim
-    (λ less. absurd (omega (arith, v, rise (take b ys) (take a ys) n m (take_prefix b a ys (omega arith)) (omega (arith, less, length-take-le a ys la, length-take-le b ys lb)) hb ha (sym o))))
+    (λ less. absurd (omega (arith, v, rise b a n m less la hb ha (sym o))))
     (λ below. same_some m n (sym ha ∙ ap (λ k. g.heart (take k ys)) (omega arith) ∙ hb))
     (cases_lt b a))
     (cases_lt a b)
@@ -269,9 +263,9 @@ heart_came g w st c known s m low high made i ok =
     answer_came g w st s low high i ok c (Heart m.object m.version m.name) (heart_there g i xs r.0 m c r.1 made known)
 
 -- and is believed
-heart_believed : (g : Ring) → FewFaulty g → VersionsRise g → (w : World) → IsSettled g w → (c : ℕ) → c < g.clients → (s : ℕ) (m : Mark) → 1 ≤ s → s ≤ length (orders g (w.got (Member 0)))
+heart_believed : (g : Ring) → FewFaulty g → (w : World) → VersionsRise g (orders g (w.got (Member 0))) → IsSettled g w → (c : ℕ) → c < g.clients → (s : ℕ) (m : Mark) → 1 ≤ s → s ≤ length (orders g (w.got (Member 0)))
     → g.heart (take s (orders g (w.got (Member 0)))) ≡ Some m → believed g (beating m.object m.version) (w.got (Client c)) ≡ Some m.name
-heart_believed g few rise w st c known s m low high made =
+heart_believed g few w rise st c known s m low high made =
     told_value g few w st.sound (Client c) (beating m.object m.version) (Heart m.object m.version m.name) m.name
     (ap (λ b. cond b (Some m.name) None) (and_from (bytes_eq m.object m.object) (m.version == m.version) ((bytes_eq-Decides m.object m.object).1 refl) (eq-eqb m.version m.version refl)))
     (heart_came g w st c known s m low high made)
@@ -279,10 +273,10 @@ heart_believed g few rise w st c known s m low high made =
     let owed = subst (Owes g i (w.got (Member i)) (Client c)) (beating_is m.object m.version x z says) owes in
     let p = executed_first g w st i ok owed.0 owed.1 owed.2 in
     let n : Mark = record { object = m.object; version = m.version; name = z } in
-    ap (λ (k : Mark). k.name) (same_version g rise (orders g (w.got (Member 0))) owed.0 s n m p.1 high (ap g.heart p.2 ∙ owed.3) made refl refl))
+    ap (λ (k : Mark). k.name) (same_version g (orders g (w.got (Member 0))) rise owed.0 s n m p.1 high (ap g.heart p.2 ∙ owed.3) made refl refl))
 
 pub all_told : AllTold
-all_told g few rise lead events legal delivered c known o =
+all_told g few lead events legal delivered rises c known o =
     elim (last_made g o (orders g ((world g events).got (Member 0))) (length (orders g ((world g events).got (Member 0)))))
     as (λ q. last_made g o (orders g ((world g events).got (Member 0))) (length (orders g ((world g events).got (Member 0)))) ≡ q → heart_of g o ((world g events).got (Client c)) ≡ q) [
       | None ↦ λ e. nothing e (newest g o got got) refl
@@ -292,6 +286,9 @@ all_told g few rise lead events legal delivered c known o =
   where
     st : IsSettled g (world g events)
     st = settled g few lead events legal delivered
+
+    rise : VersionsRise g (orders g ((world g events).got (Member 0)))
+    rise = subst (VersionsRise g) (chosen_is g (world g events) lead st) rises
 
     got : List Letter
     got = (world g events).got (Client c)
@@ -309,7 +306,7 @@ all_told g few rise lead events legal delivered c known o =
         let w = world g events in
         let L = orders g (w.got (Member 0)) in
         let p = last_parts g o L (length L) m e in
-        let bel = subst (λ x. believed g (beating x m.version) got ≡ Some m.name) p.4 (heart_believed g few rise w st c known p.0 m p.1 p.2 p.3) in
+        let bel = subst (λ x. believed g (beating x m.version) got ≡ Some m.name) p.4 (heart_believed g few w rise st c known p.0 m p.1 p.2 p.3) in
         let came = heart_came g w st c known p.0 m p.1 p.2 p.3 0 (omega arith, lead) in
         let least = newest_least g o got got (record { from = Member 0; message = Heart m.object m.version m.name }) m.version came
         (passing_from (λ v. is_some (believed g (beating o v) got)) (cond (bytes_eq m.object o) (Some m.version) None) m.version
@@ -321,7 +318,7 @@ all_told g few rise lead events legal delivered c known o =
         = ⊎_elim
         (λ later. absurd (p.5 made.0 later made.2 k made.3 refl))
         (λ within. ⊎_elim
-        (λ before. omega (arith, rise (take made.0 L) (take p.0 L) k m (take_prefix made.0 p.0 L within) (omega (arith, before, length-take-le made.0 L made.2, length-take-le p.0 L p.2)) made.3 p.3 (sym p.4)))
+        (λ before. omega (arith, rise made.0 p.0 k m before p.2 made.3 p.3 (sym p.4)))
         (λ after. omega (arith, ap (λ (x : Mark). x.version) (same_some k m (sym made.3 ∙ ap (λ i. g.heart (take i L)) (omega arith) ∙ p.3))))
         (cases_lt made.0 p.0))
         (cases_lt p.0 made.0) in

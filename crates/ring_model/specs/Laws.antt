@@ -132,9 +132,9 @@ abbrev pub AllAnswered : Type 0
 AllAnswered = (g : Ring) → FewFaulty g → g.is_faulty 0 ≡ false → (events : List Event) → IsLegal g events → AllDelivered g (world g events) → (r : List ℕ) → Contains (world g events).submits r
     → (xs : List (List ℕ)) × IsPrefix xs (chosen g (world g events)) × (slice_get xs (length xs - 1) ≡ Some r) × (believed g (replied (g.number r)) ((world g events).got (Client (g.owner r))) ≡ Some (g.outcome xs))
 
--- The versions of an object rise along a list of requests.
-abbrev pub VersionsRise : Ring → Type 0
-VersionsRise g = (xs ys : List (List ℕ)) (m n : Mark) → IsPrefix xs ys → length xs < length ys → g.heart xs ≡ Some m → g.heart ys ≡ Some n → m.object ≡ n.object → m.version < n.version
+-- The versions of an object rise along this list of requests.
+abbrev pub VersionsRise : Ring → List (List ℕ) → Type 0
+VersionsRise g xs = (a b : ℕ) (m n : Mark) → a < b → b ≤ length xs → g.heart (take a xs) ≡ Some m → g.heart (take b xs) ≡ Some n → m.object ≡ n.object → m.version < n.version
 
 -- the last version of an object that the first n requests of a list make
 abbrev pub last_made : Ring → List ℕ → List (List ℕ) → ℕ → Option Mark
@@ -143,7 +143,7 @@ last_made g o xs (suc n) = option_or (passing (λ m. bytes_eq m.object o) (g.hea
 
 -- Where member 0 is correct and all was delivered, each client's heart of an object is the last version that the committed list makes of it.
 abbrev pub AllTold : Type 0
-AllTold = (g : Ring) → FewFaulty g → VersionsRise g → g.is_faulty 0 ≡ false → (events : List Event) → IsLegal g events → AllDelivered g (world g events) → (c : ℕ) → c < g.clients → (o : List ℕ)
+AllTold = (g : Ring) → FewFaulty g → g.is_faulty 0 ≡ false → (events : List Event) → IsLegal g events → AllDelivered g (world g events) → VersionsRise g (chosen g (world g events)) → (c : ℕ) → c < g.clients → (o : List ℕ)
     → heart_of g o ((world g events).got (Client c)) ≡ last_made g o (chosen g (world g events)) (length (chosen g (world g events)))
 
 -- how many messages an event that is no delivery adds at most

@@ -29,7 +29,7 @@ version v r = record { object = object; version = v; name = r }
 abbrev pub called : List ℕ → List ℕ
 called r = 9 ∷ r
 
--- Member `faulty` may forge. A request is its client, its number and a byte; the outcome of one that is no repeat is the version that it makes.
+-- Member `faulty` may forge, and none where it is 4. A request is its client, its number and a byte; the outcome of one that is no repeat is the version that it makes.
 abbrev pub four : ℕ → ℕ → Ring
 four faulty clients = record {
   f = 1;

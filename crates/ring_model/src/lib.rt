@@ -86,7 +86,7 @@ pub fn all_answered()
 {}
 
 /// Where member 0 is correct and all was delivered, each client's heart of an object is the last
-/// version that the committed list makes of it, where the versions of an object rise.
+/// version that the committed list makes of it, where the versions of an object rise along that list.
 pub fn all_told()
     ensures { AllTold }
 {}
