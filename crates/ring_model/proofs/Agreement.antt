@@ -1,5 +1,5 @@
 -- Two quorums share a correct member, which sent one Prepare for the slot.
-use Rattle.std.proofs.Common.{◌≡◌, ℕ, suc, ◌+◌, ◌*◌, ◌≤◌, true, false, cond, ◌==◌, nat_le, nat_lt, List, [], ◌∷◌, ◌++◌, length, Contains, Option, Some, None, ◌⊎◌, inl, inr, refl, sym, ap, ◌∙◌, subst₂, arith, length-append, append-nil, subst}
+use Rattle.std.proofs.Common.{◌≡◌, ℕ, ◌+◌, ◌*◌, ◌≤◌, true, false, cond, ◌==◌, nat_le, nat_lt, List, [], ◌∷◌, ◌++◌, length, Contains, Option, Some, None, refl, sym, ap, ◌∙◌, subst₂, arith, length-append, append-nil, subst}
 use Rattle.std.specs.List.{list_any, AllByRecursion as Each}
 use Rattle.std.proofs.lemmas.Bool.{eqb-true, and_parts, leb-true, ltb-true, ltb-false}
 use Rattle.std.proofs.lemmas.Slice.Eq.{bytes_eq-Decides}
@@ -21,7 +21,7 @@ said_by_parts {Y} p say l y e =
       | false ↦ λ _ now. absurd (cc now)
     ] refl e
 
-here : {Y : Type 0} (t s : ℕ) (x y : Y) → cond (t == s) (Some x) None ≡ Some y → (t ≡ s) × (x ≡ y)
+pub here : {Y : Type 0} (t s : ℕ) (x y : Y) → cond (t == s) (Some x) None ≡ Some y → (t ≡ s) × (x ≡ y)
 here {Y} t s x y e =
     elim (t == s) as (λ b. (t == s) ≡ b → cond b (Some x) None ≡ Some y → (t ≡ s) × (x ≡ y)) [
       | true ↦ λ same now. (eqb-true t s same, same_some x y now)
@@ -97,19 +97,6 @@ one_request g few w sound clear j k s a b ea eb =
     let pa = committed_parts g (w.got j) s a ea in
     let pb = committed_parts g (w.got k) s b eb in
     clear a b (endorsed_submitted g w sound j s a pa.1) (endorsed_submitted g w sound k s b pb.1) (one_name g few w sound j k s a b pa.0 pb.0)
-
--- lists of which any two are prefixes of one another are prefixes of the longest
-pub longest_there : {Y : Type 0} (xss : List (List Y)) → (longest xss ≡ []) ⊎ Contains xss (longest xss)
-longest_there [] = inl refl
-longest_there {Y} (xs ∷ xss) =
-    elim (nat_lt (length xs) (length (longest xss))) as (λ b. nat_lt (length xs) (length (longest xss)) ≡ b → (cond b (longest xss) xs ≡ []) ⊎ Contains (xs ∷ xss) (cond b (longest xss) xs)) [
-      | true ↦ λ _. later (longest_there xss)
-      | false ↦ λ _. inr (0, omega arith, refl)
-    ] refl
-  where
-    later : (longest xss ≡ []) ⊎ Contains xss (longest xss) → (longest xss ≡ []) ⊎ Contains (xs ∷ xss) (longest xss)
-    later (inl e) = inl e
-    later (inr c) = inr (suc c.0, omega arith, c.2)
 
 pub longest_long : {Y : Type 0} (xss : List (List Y)) → Each (λ xs. length xs ≤ length (longest xss)) xss
 longest_long [] = tt

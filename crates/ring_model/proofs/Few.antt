@@ -56,6 +56,10 @@ abbrev pub weight : Ring → List Letter → ℕ
 weight g got =
     (3 * g.f + 1) * owed_count g (order_at g got) + (3 * g.f + 1) * owed_count g (endorsed g got) + (3 * g.f + 1) * owed_count g (prepared g got) + (1 + g.clients) * owed_count g (executed_to g got)
 
+shorter : (b : Bool) (xs : List Packet) → (length (cond b xs []) ≤ length xs) × (length (cond b [] xs) ≤ length xs)
+shorter true xs = (omega arith, omega arith)
+shorter false xs = (omega arith, omega arith)
+
 weighs : (g : Ring) (i : ℕ) (l : Letter) (older : List Letter) → length (causes g i older (l ∷ older)) + weight g older ≤ weight g (l ∷ older)
 weighs g i l older =
     let got = l ∷ older in
@@ -67,12 +71,8 @@ weighs g i l older =
     let b = newly_count g (3 * g.f + 1) (endorsed g older) (endorsed g got) (λ s r. to_members g (Member i) (Prepare s (g.h r))) (λ s r. omega (arith, members_long g (Member i) (Prepare s (g.h r)))) (endorsed_stays g l older) in
     let c = newly_count g (3 * g.f + 1) (prepared g older) (prepared g got) (λ s r. to_members g (Member i) (Commit s (g.h r))) (λ s r. omega (arith, members_long g (Member i) (Commit s (g.h r)))) (prepared_stays g l older) in
     let d = newly_count g (1 + g.clients) (executed_to g older) (executed_to g got) (λ s xs. answers g i xs) (λ s xs. answers_long g i xs) (executed_to_stays g l older) in
-    let first : length (cond (i == 0) A []) ≤ length A = shorter (i == 0) A in
+    let first : length (cond (i == 0) A []) ≤ length A = (shorter (i == 0) A).0 in
     omega (arith, length-append (cond (i == 0) A [] ++ B ++ C) D, length-append (cond (i == 0) A [] ++ B) C, length-append (cond (i == 0) A []) B, first, a, b, c, d)
-  where
-    shorter : (b : Bool) (xs : List Packet) → length (cond b xs []) ≤ length xs
-    shorter true xs = omega arith
-    shorter false xs = omega arith
 
 count_most : {Y : Type 0} (g : Ring) (has : ℕ → Option Y) → owed_count g has ≤ g.slots
 count_most g has = omega (arith, count_by-le-length (λ s. is_some (has s)) (range_with_len 1 g.slots), length-range_with_len 1 g.slots)
@@ -92,6 +92,10 @@ weight_most g got =
 
 -- ---- over the members
 
+sum_more : (F G : ℕ → ℕ) → ((j : ℕ) → F j ≤ G j) → (xs : List ℕ) → sum_by F xs ≤ sum_by G xs
+sum_more F G f [] = omega arith
+sum_more F G f (x ∷ xs) = omega (arith, sum_by-cons F x xs, sum_by-cons G x xs, f x, sum_more F G f xs)
+
 sum_raise : (F G : ℕ → ℕ) (d i : ℕ) → ((j : ℕ) → F j ≤ G j) → F i + d ≤ G i → (n a : ℕ) → a ≤ i → i < a + n → sum_by F (range_with_len a n) + d ≤ sum_by G (range_with_len a n)
 sum_raise F G d i f at zero a low high = absurd (omega arith)
 sum_raise F G d i f at (suc n) a low high =
@@ -100,14 +104,6 @@ sum_raise F G d i f at (suc n) a low high =
     omega (arith, sum_by-cons F a (range_with_len (a + 1) n), sum_by-cons G a (range_with_len (a + 1) n), here, sum_more F G f (range_with_len (a + 1) n)))
     (λ other. omega (arith, sum_by-cons F a (range_with_len (a + 1) n), sum_by-cons G a (range_with_len (a + 1) n), f a, sum_raise F G d i f at n (a + 1) (omega arith) (omega arith)))
     (cases_eq a i)
-  where
-    sum_more : (F G : ℕ → ℕ) → ((j : ℕ) → F j ≤ G j) → (xs : List ℕ) → sum_by F xs ≤ sum_by G xs
-    sum_more F G f [] = omega arith
-    sum_more F G f (x ∷ xs) = omega (arith, sum_by-cons F x xs, sum_by-cons G x xs, f x, sum_more F G f xs)
-
-sum_more : (F G : ℕ → ℕ) → ((j : ℕ) → F j ≤ G j) → (xs : List ℕ) → sum_by F xs ≤ sum_by G xs
-sum_more F G f [] = omega arith
-sum_more F G f (x ∷ xs) = omega (arith, sum_by-cons F x xs, sum_by-cons G x xs, f x, sum_more F G f xs)
 
 abbrev total : Ring → (Party → List Letter) → ℕ
 total g got = sum_by (λ i. weight g (got (Member i))) (members g)
@@ -134,9 +130,9 @@ came_few g w p q (Some x) f = at x.to refl (f x refl)
         omega (arith, length-append w.sent (sends g x.to (w.got x.to) (l ∷ w.got x.to)), none, sum_more (λ j. weight g (w.got (Member j))) (λ j. weight g (cond (same_party x.to (Member j)) (l ∷ w.got (Member j)) (w.got (Member j)))) grows (members g))
     at (Member i) e party =
         let mine : sends g x.to (w.got x.to) (l ∷ w.got x.to) ≡ cond (g.is_faulty i) [] (causes g i (w.got (Member i)) (l ∷ w.got (Member i))) = ap (λ p. sends g p (w.got p) (l ∷ w.got p)) e in
-        let few : length (cond (g.is_faulty i) [] (causes g i (w.got (Member i)) (l ∷ w.got (Member i)))) ≤ length (causes g i (w.got (Member i)) (l ∷ w.got (Member i))) = shorter (g.is_faulty i) (causes g i (w.got (Member i)) (l ∷ w.got (Member i))) in
+        let few : length (cond (g.is_faulty i) [] (causes g i (w.got (Member i)) (l ∷ w.got (Member i)))) ≤ length (causes g i (w.got (Member i)) (l ∷ w.got (Member i))) = (shorter (g.is_faulty i) (causes g i (w.got (Member i)) (l ∷ w.got (Member i)))).1 in
         let here : weight g (w.got (Member i)) + length (causes g i (w.got (Member i)) (l ∷ w.got (Member i))) ≤ weight g (cond (same_party x.to (Member i)) (l ∷ w.got (Member i)) (w.got (Member i)))
-        = rw (ap (λ p. same_party p (Member i)) e ∙ own i) (omega (arith, weighs g i l (w.got (Member i)))) in
+        = rw (ap (λ p. same_party p (Member i)) e ∙ eq-eqb i i refl) (omega (arith, weighs g i l (w.got (Member i)))) in
         omega (
           arith,
           length-append w.sent (sends g x.to (w.got x.to) (l ∷ w.got x.to)),
@@ -144,13 +140,6 @@ came_few g w p q (Some x) f = at x.to refl (f x refl)
           few,
           sum_raise (λ j. weight g (w.got (Member j))) (λ j. weight g (cond (same_party x.to (Member j)) (l ∷ w.got (Member j)) (w.got (Member j)))) (length (causes g i (w.got (Member i)) (l ∷ w.got (Member i)))) i grows here (3 * g.f + 1) 0 (omega arith) (omega (arith, party)),
         )
-      where
-        own : (i : ℕ) → same_party (Member i) (Member i) ≡ true
-        own i = eq-eqb i i refl
-
-        shorter : (b : Bool) (xs : List Packet) → length (cond b [] xs) ≤ length xs
-        shorter true xs = omega arith
-        shorter false xs = omega arith
 
 between_to : (g : Ring) (p q : Party) (sent : List Packet) (k : ℕ) (x : Packet) → IsParty g q → slice_get (between p q sent) k ≡ Some x → IsParty g x.to
 between_to g p q [] k x party e = absurd (cc e)

@@ -1,7 +1,7 @@
 -- Where all was delivered, all was executed.
 use Rattle.std.proofs.Common.{◌≡◌, ℕ, zero, suc, ◌+◌, ◌-◌, ◌*◌, ◌<◌, ◌≤◌, Bool, true, false, cond, ◌==◌, nat_le, List, [], ◌∷◌, length, slice_get, count_by, Contains, Option, Some, None, ◌⊎◌, inl, inr, ⊎_elim, bytes_eq, refl, sym, ap, ◌∙◌, subst, subst₂, arith}
 use Rattle.std.specs.List.{list_any}
-use Rattle.std.proofs.lemmas.Bool.{eqb-true, eq-eqb, and_from, le-leb, cases_Bool, cases_lt}
+use Rattle.std.proofs.lemmas.Bool.{eq-eqb, and_from, le-leb, cases_Bool, cases_lt}
 use Rattle.std.proofs.lemmas.List.Sums.{sum_by-cons, length-filter, count_by-le-length}
 use Rattle.std.proofs.lemmas.List.FromFn.{length-range_with_len}
 use Rattle.std.proofs.lemmas.Slice.Eq.{bytes_eq-Decides}
@@ -13,17 +13,10 @@ use Rattle.ring_model.specs.Laws.{Right, IsSound, IsCorrect, IsHonest, AllExecut
 use Rattle.ring_model.proofs.History.{same_some, said_holds, passing_from, run_holds, passing_parts}
 use Rattle.ring_model.proofs.Counting.{in_range}
 use Rattle.ring_model.proofs.Owed.{all_owed}
-use Rattle.ring_model.proofs.Agreement.{said_by_parts, word_right, prepares_is, commits_is, committed_parts, prefix_same}
+use Rattle.ring_model.proofs.Agreement.{here, said_by_parts, word_right, prepares_is, commits_is, committed_parts, prefix_same}
 use Rattle.ring_model.proofs.Lists.{there_first, there_later, Each-there, filter_there, any_there, said_there, at_short, run_has, run_reaches, run_there, short_by_owner, Each-from_there, there_filter, at_in}
 use Rattle.ring_model.proofs.Complete.{IsComplete, all_complete, to_all}
 use Rattle.ring_model.proofs.Ordered.{of_client, IsNumbered, all_numbered, from_client, from_is, numbered_is, client_orders}
-
-here : {Y : Type 0} (t s : ℕ) (x y : Y) → cond (t == s) (Some x) None ≡ Some y → (t ≡ s) × (x ≡ y)
-here {Y} t s x y e =
-    elim (t == s) as (λ b. (t == s) ≡ b → cond b (Some x) None ≡ Some y → (t ≡ s) × (x ≡ y)) [
-      | true ↦ λ same now. (eqb-true t s same, same_some x y now)
-      | false ↦ λ _ now. absurd (cc now)
-    ] refl e
 
 pre_prepares_is : (s : ℕ) (m : Message) (r : List ℕ) → pre_prepares s m ≡ Some r → m ≡ PrePrepare s r
 pre_prepares_is s (PrePrepare t x) r e = let h = here t s x r e in cc

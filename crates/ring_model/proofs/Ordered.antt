@@ -6,7 +6,7 @@ use Rattle.std.proofs.lemmas.Bool.{eqb-true, eq-eqb, ne_eqb, cases_eq, and_parts
 use Rattle.std.proofs.lemmas.List.{length_push}
 use Rattle.std.proofs.lemmas.List.Sums.{sum_by_push, length-filter}
 use Rattle.std.proofs.lemmas.List.Elements.{Contains-append_left, Contains-push, Contains-push_cases, filter-append}
-use Rattle.ring_model.specs.Messages.{Ring, Letter, Packet, Message, Request, PrePrepare, Prepare, Commit, Reply, Heart, Sealed, Foreign, Mark, Party, Member, Client, same_party}
+use Rattle.ring_model.specs.Messages.{Ring, Letter, Packet, Message, Request, Mark, Party, Member, Client, same_party}
 use Rattle.ring_model.specs.History.{said_by, first_word, run_of}
 use Rattle.ring_model.specs.Member.{numbered, chain, ordered_by, orders, executed}
 use Rattle.ring_model.specs.World.{World, Event, Submit, Resubmit, Deliver, Forge, Archive, between, came, turned, happens, world, MayHappen, IsLegal}
@@ -157,13 +157,6 @@ client_orders g c (l ∷ older) =
     grow : (p : Party) (m : Message) → l.from ≡ p → l.message ≡ m → filter (of_client g c) (orders g older) ≡ run_of (from_client g c older) g.slots 1
         → run_of (from_client g c older) g.slots 1 ++ filter (of_client g c) (ordered_by g (l ∷ older) (orders g older) p m) ≡ run_of (from_client g c (l ∷ older)) g.slots 1
     grow (Member i) m ep em ih = still (Member i) m ep em refl (λ e. absurd (cc e))
-    grow (Client d) (PrePrepare k r) ep em ih = still (Client d) (PrePrepare k r) ep em refl (λ _ n. refl)
-    grow (Client d) (Prepare k r) ep em ih = still (Client d) (Prepare k r) ep em refl (λ _ n. refl)
-    grow (Client d) (Commit k r) ep em ih = still (Client d) (Commit k r) ep em refl (λ _ n. refl)
-    grow (Client d) (Reply k r) ep em ih = still (Client d) (Reply k r) ep em refl (λ _ n. refl)
-    grow (Client d) (Heart o v n) ep em ih = still (Client d) (Heart o v n) ep em refl (λ _ n. refl)
-    grow (Client d) (Sealed o v n) ep em ih = still (Client d) (Sealed o v n) ep em refl (λ _ n. refl)
-    grow (Client d) Foreign ep em ih = still (Client d) Foreign ep em refl (λ _ n. refl)
     grow (Client d) (Request r) ep em ih = ⊎_elim own strange (cases_eq (g.owner r) d)
       where
         goal : Type 0
@@ -197,6 +190,7 @@ client_orders g c (l ∷ older) =
             ∙ run_same (from_client g c older) (from_client g c (l ∷ older))
             (λ n. sym (deaf g c l older (λ e k. absurd (apart (eqb-true d c (subst (λ p. same_party p (Client c) ≡ true) ep e)))) n)) g.slots 1)
             (cases_eq d c)
+    grow (Client d) m ep em ih = still (Client d) m ep em refl (λ _ n. refl)
 
 -- no request is ordered twice
 pub orders_once : (g : Ring) (got : List Letter) (a b : ℕ) (r : List ℕ) → slice_get (orders g got) a ≡ Some r → slice_get (orders g got) b ≡ Some r → a ≡ b
