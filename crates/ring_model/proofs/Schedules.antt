@@ -1,9 +1,9 @@
 -- The schedules, computed.
-use Rattle.std.proofs.Common.{◌≡◌, ◌+◌, ◌*◌, Bool, true, false, ◌==◌, ◌&&◌, nat_lt, List, [], ◌∷◌, ◌++◌, length, count_by, refl}
+use Rattle.std.proofs.Common.{◌≡◌, ◌+◌, ◌*◌, Bool, true, false, ◌==◌, ◌&&◌, nat_lt, List, [], ◌∷◌, ◌++◌, length, count_by, refl, arith}
 use Rattle.std.proofs.lemmas.Bool.{and_parts, eqb-true, ltb-true}
 use Rattle.ring_model.specs.Messages.{Ring, Party, Member, Client}
 use Rattle.ring_model.specs.World.{World, Event, Submit, Resubmit, Deliver, Forge, Archive, happens, world, IsParty, MayHappen, IsLegal}
-use Rattle.ring_model.specs.Schedules.{four, later, twice, voted, two_senders, muted, found, PrimaryOrdersTwice, PrimaryEquivocates, TwoSendersAreNotThree, MutedMember, PreparedIsNotCommitted, FirstOrderStands, OrderedByNumber, OneHeartIsNotBelieved, reordered, hurried, one_heart, from_each}
+use Rattle.ring_model.specs.Schedules.{four, later, twice, voted, two_senders, muted, found, PrimaryOrdersTwice, PrimaryEquivocates, TwoSendersAreNotThree, MutedMember, PreparedIsNotCommitted, FirstOrderStands, OrderedByNumber, OneHeartIsNotBelieved, FullDelivery, one, delivered, reordered, hurried, one_heart, from_each}
 
 is_party : Ring → Party → Bool
 is_party g (Member i) = nat_lt i (3 * g.f + 1)
@@ -77,3 +77,12 @@ ordered_by_number = (legal (four 4 1) [] (hurried ++ Deliver (Client 0) (Member 
 pub one_heart_is_not_believed : OneHeartIsNotBelieved
 unfolding all_may may is_party
 one_heart_is_not_believed = (legal (four 3 1) [] (one_heart ++ from_each (1 ∷ []) 0 1) refl tt, refl, refl)
+
+pub full_delivery : FullDelivery
+unfolding all_may may is_party
+full_delivery = (
+  legal one [] delivered refl tt,
+  (λ _ _. (3, omega arith, refl), (λ _ _. (2, omega arith, refl), (λ _ _. (1, omega arith, refl), (λ _ _. (0, omega arith, refl), (λ _ _. (1, omega arith, refl), (λ _ _. (0, omega arith, refl), tt)))))),
+  refl,
+  refl,
+)

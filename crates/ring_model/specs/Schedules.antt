@@ -5,6 +5,7 @@ use Rattle.ring_model.specs.Messages.{Party, Member, Client, Request, PrePrepare
 use Rattle.ring_model.specs.Member.{endorsed, prepared, executed, orders}
 use Rattle.ring_model.specs.World.{Event, Submit, Deliver, Forge, World, world, IsLegal}
 use Rattle.ring_model.specs.Belief.{believed, replied, heart_of}
+use Rattle.ring_model.specs.Laws.{AllDelivered}
 
 -- ---- a ring of four members, and one object
 
@@ -55,13 +56,15 @@ b = 1 ∷ 1 ∷ 6 ∷ []
 
 -- ---- schedules
 
--- all members, and all but one
+-- all members
 abbrev pub all : List ℕ
 all = 0 ∷ 1 ∷ 2 ∷ 3 ∷ []
 
+-- all but member 0
 abbrev pub but_0 : List ℕ
 but_0 = 1 ∷ 2 ∷ 3 ∷ []
 
+-- all but member 3
 abbrev pub but_3 : List ℕ
 but_3 = 0 ∷ 1 ∷ 2 ∷ []
 
@@ -226,3 +229,18 @@ OneHeartIsNotBelieved =
     IsLegal (four 3 1) (later [] (one_heart ++ from_each (1 ∷ []) 0 1))
     × (heart_of (four 3 1) object ((ran (four 3 1) one_heart).got (Client 0)) ≡ None)
     × (heart_of (four 3 1) object ((ran (four 3 1) (one_heart ++ from_each (1 ∷ []) 0 1)).got (Client 0)) ≡ Some (version 1 a))
+
+-- A ring of one member, where all is delivered.
+abbrev pub one : Ring
+one = record (four 4 1) { f = 0 }
+
+-- It executes one request.
+abbrev pub delivered : List Event
+delivered = Submit a ∷ Deliver (Client 0) (Member 0) 0 ∷ map (λ k. Deliver (Member 0) (Member 0) k) (0 ∷ 1 ∷ 2 ∷ []) ++ from_each (0 ∷ []) 0 0 ++ from_each (0 ∷ []) 0 1
+
+-- The conditions of the laws of full delivery can be met.
+abbrev pub FullDelivery : Type 0
+FullDelivery =
+    IsLegal one (later [] delivered) × AllDelivered one (ran one delivered)
+    × (executed one ((ran one delivered).got (Member 0)) ≡ a ∷ [])
+    × (heart_of one object ((ran one delivered).got (Client 0)) ≡ Some (version 1 a))

@@ -10,7 +10,7 @@
 #![tactic(auto)]
 
 ghost use Rattle.ring_model.specs.Laws.{QuorumsMeet, AllOwed, OneName, OnlySubmitted, Agrees, Grows, HeldByMany, ChosenIsHeld, BelievedIsOwed, BelievedHeart, BelievedSeal, BelievedReply, AllExecuted, AllAnswered, AllTold, FewSent, SentDeclared};
-ghost use Rattle.ring_model.specs.Schedules.{PrimaryOrdersTwice, PrimaryEquivocates, TwoSendersAreNotThree, MutedMember, PreparedIsNotCommitted, FirstOrderStands, OrderedByNumber, OneHeartIsNotBelieved};
+ghost use Rattle.ring_model.specs.Schedules.{PrimaryOrdersTwice, PrimaryEquivocates, TwoSendersAreNotThree, MutedMember, PreparedIsNotCommitted, FirstOrderStands, OrderedByNumber, OneHeartIsNotBelieved, FullDelivery};
 
 /// Any two sets of 2f+1 of the 3f+1 members share a correct one, where at most f are faulty.
 pub fn quorums_meet()
@@ -141,4 +141,9 @@ pub fn ordered_by_number()
 /// A heart from one correct member is not believed, nor one that a faulty member sends twice.
 pub fn one_heart_is_not_believed()
     ensures { OneHeartIsNotBelieved }
+{}
+
+/// The conditions of the laws of full delivery can be met: by a ring of one member that was given all.
+pub fn full_delivery()
+    ensures { FullDelivery }
 {}
