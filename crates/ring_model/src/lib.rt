@@ -1,12 +1,12 @@
 //! How a ring of 3f+1 members agrees on one list of requests, with no code in sight.
 //!
-//! The ring is a model: its parties, messages and events are plain data, and what a member makes of
-//! the letters that it was given is defined by recounting the whole list. Nothing stands below it.
-//! Each function here is a law: it does nothing, and its contract is a statement about every legal
-//! list of events. The layers above show that their code stands for this model, and call these
-//! functions for what then holds of it: `agrees` and `grows` for the committed list, `only_submitted`
-//! and `held_by_many` for what is in it, the laws of belief for what clients are told, and
-//! `all_executed`, `all_answered` and `all_told` for a run in which everything was delivered.
+//! The ring is a model that stands on nothing: its parties, messages and events are plain data, and
+//! what a member makes of its letters is defined by recounting the whole list. Each function here is a
+//! law: it does nothing, and its contract is a statement about every legal list of events. The layers
+//! above show that their code stands for this model and call these functions for what then holds:
+//! `agrees` and `grows` of the committed list, `only_submitted` and `chosen_is_held` of what is in it,
+//! the laws of belief of what clients are told, and `all_executed`, `all_answered` and `all_told` of a
+//! run in which everything was delivered. The last ones are schedules that guard the definitions.
 #![tactic(auto)]
 
 ghost use Rattle.ring_model.specs.Laws.{QuorumsMeet, AllOwed, OneName, OnlySubmitted, Agrees, Grows, HeldByMany, ChosenIsHeld, BelievedIsOwed, BelievedHeart, BelievedSeal, BelievedReply, AllExecuted, AllAnswered, AllTold, FewSent, SentDeclared};
@@ -100,6 +100,8 @@ pub fn few_sent()
 pub fn sent_declared()
     ensures { SentDeclared }
 {}
+
+// ---- Schedules, which the checker computes
 
 /// A primary that is faulty orders one request twice: it is executed in both slots and changes
 /// nothing the second time.
