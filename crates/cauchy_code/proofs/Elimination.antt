@@ -5,7 +5,8 @@ use Rattle.std.proofs.lemmas.Nat.{xor_comm}
 use Rattle.gf256.specs.Field.{product, inverse}
 use Rattle.gf256.proofs.Laws.{product_byte, product_assoc, product_one_l, product_sum_l, product_sum_r, product_zero_l, product_zero_r}
 use Rattle.gf256.proofs.Linear.{xor_swap}
-use Rattle.cauchy_code.specs.Code.{dot, cauchy, rows, Bytes, Away, Apart, Points, Rebuilds}
+use Rattle.cauchy_code.specs.Code.{dot, cauchy_row, Bytes, Away}
+use Rattle.cauchy_code.specs.Table.{rows, Apart, Points, Rebuilds}
 use Rattle.cauchy_code.specs.Table.{scale, add, mix, times, kept, taken, back, forth, lower, upper, inverse_table}
 use Rattle.gf256.proofs.Ring.{products, sums, xor_byte, unit, unit_cancel}
 use Rattle.cauchy_code.proofs.Ring.{cauchy_step}
@@ -99,9 +100,9 @@ column x0 y0 x y p bx0 by0 bx by nx nxy nx0y =
 
 -- all columns but the first
 columns : (x0 y0 x : ℕ) (ys ps : List ℕ) → x0 < 256 → y0 < 256 → x < 256 → x ≢ x0 → Bytes ys → Away x ys → Away x0 ys
-    → bit_xor (product (kept x0 y0 x) (dot (cauchy x ys) ps)) (product (taken x0 y0 x) (dot (cauchy x0 ys) ps))
-    ≡ dot (cauchy x ys) (forward x0 y0 ys ps)
-unfolding dot cauchy forward
+    → bit_xor (product (kept x0 y0 x) (dot (cauchy_row x ys) ps)) (product (taken x0 y0 x) (dot (cauchy_row x0 ys) ps))
+    ≡ dot (cauchy_row x ys) (forward x0 y0 ys ps)
+unfolding dot cauchy_row forward
 columns x0 y0 x [] ps bx0 by0 bx nx b ax ax0 = (λ i. bit_xor (product_zero_r (kept x0 y0 x) i) (product_zero_r (taken x0 y0 x) i))
 columns x0 y0 x (y ∷ ys) [] bx0 by0 bx nx b ax ax0 = (λ i. bit_xor (product_zero_r (kept x0 y0 x) i) (product_zero_r (taken x0 y0 x) i))
 columns x0 y0 x (y ∷ ys) (p ∷ ps) bx0 by0 bx nx b ax ax0 =
@@ -109,8 +110,8 @@ columns x0 y0 x (y ∷ ys) (p ∷ ps) bx0 by0 bx nx b ax ax0 =
     let g = taken x0 y0 x in
     let u = product (inverse (bit_xor x y)) p in
     let v = product (inverse (bit_xor x0 y)) p in
-    (λ i. bit_xor (product_sum_r f u (dot (cauchy x ys) ps) i) (product_sum_r g v (dot (cauchy x0 ys) ps) i))
-    ∙ xor_swap (product f u) (product f (dot (cauchy x ys) ps)) (product g v) (product g (dot (cauchy x0 ys) ps))
+    (λ i. bit_xor (product_sum_r f u (dot (cauchy_row x ys) ps) i) (product_sum_r g v (dot (cauchy_row x0 ys) ps) i))
+    ∙ xor_swap (product f u) (product f (dot (cauchy_row x ys) ps)) (product g v) (product g (dot (cauchy_row x0 ys) ps))
     ∙ (λ i. bit_xor (column x0 y0 x y p bx0 by0 bx b.0 nx ax.0 ax0.0 i) (columns x0 y0 x ys ps bx0 by0 bx nx b.1 ax.1 ax0.1 i))
 
 -- the first column goes away
@@ -129,21 +130,21 @@ first x0 y0 x p bx0 by0 bx nx nx0 =
 
 -- one row of the smaller task
 eliminated : (x0 y0 x : ℕ) (ys : List ℕ) (p : ℕ) (ps : List ℕ) → x0 < 256 → y0 < 256 → x < 256 → x ≢ x0 → Bytes ys → Away x (y0 ∷ ys) → Away x0 (y0 ∷ ys)
-    → bit_xor (product (kept x0 y0 x) (dot (cauchy x (y0 ∷ ys)) (p ∷ ps))) (product (taken x0 y0 x) (dot (cauchy x0 (y0 ∷ ys)) (p ∷ ps)))
-    ≡ dot (cauchy x ys) (forward x0 y0 ys ps)
-unfolding dot cauchy
+    → bit_xor (product (kept x0 y0 x) (dot (cauchy_row x (y0 ∷ ys)) (p ∷ ps))) (product (taken x0 y0 x) (dot (cauchy_row x0 (y0 ∷ ys)) (p ∷ ps)))
+    ≡ dot (cauchy_row x ys) (forward x0 y0 ys ps)
+unfolding dot cauchy_row
 eliminated x0 y0 x ys p ps bx0 by0 bx nx b ax ax0 =
     let f = kept x0 y0 x in
     let g = taken x0 y0 x in
     let u = product (inverse (bit_xor x y0)) p in
     let v = product (inverse (bit_xor x0 y0)) p in
-    (λ i. bit_xor (product_sum_r f u (dot (cauchy x ys) ps) i) (product_sum_r g v (dot (cauchy x0 ys) ps) i))
-    ∙ xor_swap (product f u) (product f (dot (cauchy x ys) ps)) (product g v) (product g (dot (cauchy x0 ys) ps))
+    (λ i. bit_xor (product_sum_r f u (dot (cauchy_row x ys) ps) i) (product_sum_r g v (dot (cauchy_row x0 ys) ps) i))
+    ∙ xor_swap (product f u) (product f (dot (cauchy_row x ys) ps)) (product g v) (product g (dot (cauchy_row x0 ys) ps))
     ∙ (λ i. bit_xor (first x0 y0 x p bx0 by0 bx ax.0 ax0.0 i) (columns x0 y0 x ys ps bx0 by0 bx nx b ax.1 ax0.1 i))
 
 -- all rows of the smaller task
 smaller_rows : (x0 y0 : ℕ) (xs ys : List ℕ) (p : ℕ) (ps : List ℕ) → x0 < 256 → y0 < 256 → Bytes xs → Away x0 xs → Bytes ys → Apart xs (y0 ∷ ys) → Away x0 (y0 ∷ ys)
-    → map (λ x. bit_xor (product (kept x0 y0 x) (dot (cauchy x (y0 ∷ ys)) (p ∷ ps))) (product (taken x0 y0 x) (dot (cauchy x0 (y0 ∷ ys)) (p ∷ ps)))) xs
+    → map (λ x. bit_xor (product (kept x0 y0 x) (dot (cauchy_row x (y0 ∷ ys)) (p ∷ ps))) (product (taken x0 y0 x) (dot (cauchy_row x0 (y0 ∷ ys)) (p ∷ ps)))) xs
     ≡ rows xs ys (forward x0 y0 ys ps)
 smaller_rows x0 y0 [] ys p ps bx0 by0 bxs ax b apart ax0 = refl
 smaller_rows x0 y0 (x ∷ xs) ys p ps bx0 by0 bxs ax b apart ax0 =
@@ -196,18 +197,18 @@ dot-byte (w ∷ ws) (r ∷ rs) = xor_byte (product w r) (dot ws rs) (product_byt
 
 -- the first part, from the others and the first row
 upper_gives : (x0 y0 : ℕ) (ys : List ℕ) (p : ℕ) (ps rs : List ℕ) (below : List (List ℕ)) → x0 < 256 → y0 < 256 → x0 ≢ y0 → p < 256
-    → map (λ w. dot w (dot (cauchy x0 (y0 ∷ ys)) (p ∷ ps) ∷ rs)) below ≡ ps
-    → dot (upper x0 y0 ys below) (dot (cauchy x0 (y0 ∷ ys)) (p ∷ ps) ∷ rs) ≡ p
-unfolding upper cauchy
+    → map (λ w. dot w (dot (cauchy_row x0 (y0 ∷ ys)) (p ∷ ps) ∷ rs)) below ≡ ps
+    → dot (upper x0 y0 ys below) (dot (cauchy_row x0 (y0 ∷ ys)) (p ∷ ps) ∷ rs) ≡ p
+unfolding upper cauchy_row
 upper_gives x0 y0 ys p ps rs below bx by ne bp rest =
     let c = bit_xor x0 y0 in
-    let r = dot (cauchy x0 (y0 ∷ ys)) (p ∷ ps) in
-    let s = dot (cauchy x0 ys) ps in
-    let split : r ≡ bit_xor (product (inverse c) p) s = unfolded (inverse c) (cauchy x0 ys) p ps in
-    dot-scale c (add (1 ∷ []) (mix (cauchy x0 ys) below)) (r ∷ rs)
+    let r = dot (cauchy_row x0 (y0 ∷ ys)) (p ∷ ps) in
+    let s = dot (cauchy_row x0 ys) ps in
+    let split : r ≡ bit_xor (product (inverse c) p) s = unfolded (inverse c) (cauchy_row x0 ys) p ps in
+    dot-scale c (add (1 ∷ []) (mix (cauchy_row x0 ys) below)) (r ∷ rs)
     ∙ ap (product c)
-    (dot-add (1 ∷ []) (mix (cauchy x0 ys) below) (r ∷ rs)
-    ∙ (λ i. bit_xor ((dot-one r rs (dot-byte (cauchy x0 (y0 ∷ ys)) (p ∷ ps)) ∙ split) i) ((dot-mix (cauchy x0 ys) below (r ∷ rs) ∙ ap (dot (cauchy x0 ys)) rest) i))
+    (dot-add (1 ∷ []) (mix (cauchy_row x0 ys) below) (r ∷ rs)
+    ∙ (λ i. bit_xor ((dot-one r rs (dot-byte (cauchy_row x0 (y0 ∷ ys)) (p ∷ ps)) ∙ split) i) ((dot-mix (cauchy_row x0 ys) below (r ∷ rs) ∙ ap (dot (cauchy_row x0 ys)) rest) i))
     ∙ xor_assoc (product (inverse c) p) s s ∙ ap (bit_xor (product (inverse c) p)) (xor_self s) ∙ xor_zero_r (product (inverse c) p))
     ∙ unit_cancel c (inverse c) p (unit x0 y0 bx by ne) bp
 
@@ -228,13 +229,13 @@ rebuilds (x ∷ xs) [] h ps bytes long = let e = h.square in absurd (omega arith
 rebuilds (x ∷ xs) (y ∷ ys) h [] bytes long = absurd (omega arith)
 rebuilds (x ∷ xs) (y ∷ ys) h (p ∷ ps) bytes long =
     let inner = points_tail x y xs ys h in
-    let r = dot (cauchy x (y ∷ ys)) (p ∷ ps) in
+    let r = dot (cauchy_row x (y ∷ ys)) (p ∷ ps) in
     let same = smaller_rows x y xs ys p ps h.row_bytes.0 h.column_bytes.0 h.row_bytes.1 h.rows_differ.0 h.column_bytes.1 h.apart.1 h.apart.0 in
     let smaller = rebuilds xs ys inner (forward x y ys ps) (forward_bytes x y ys ps) (forward_length x y ys ps (suc_same long)) in
     let below = lower x y xs ys (inverse_table xs ys) in
     let rest : map (λ w. dot w (rows (x ∷ xs) (y ∷ ys) (p ∷ ps))) below ≡ ps =
-    lower_gives x y xs ys (λ z. dot (cauchy z (y ∷ ys)) (p ∷ ps)) r (inverse_table xs ys)
+    lower_gives x y xs ys (λ z. dot (cauchy_row z (y ∷ ys)) (p ∷ ps)) r (inverse_table xs ys)
     ∙ ap (λ R. backward x y ys (map (λ w. dot w R) (inverse_table xs ys))) same
     ∙ ap (backward x y ys) smaller
     ∙ backward_forward x y ys ps h.row_bytes.0 h.column_bytes.0 h.column_bytes.1 h.apart.0.1 h.columns_differ.0 bytes.1 (suc_same long) in
-    λ i. (upper_gives x y ys p ps (map (λ z. dot (cauchy z (y ∷ ys)) (p ∷ ps)) xs) below h.row_bytes.0 h.column_bytes.0 h.apart.0.0 bytes.0 rest) i ∷ rest i
+    λ i. (upper_gives x y ys p ps (map (λ z. dot (cauchy_row z (y ∷ ys)) (p ∷ ps)) xs) below h.row_bytes.0 h.column_bytes.0 h.apart.0.0 bytes.0 rest) i ∷ rest i

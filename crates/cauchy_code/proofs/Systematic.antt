@@ -7,7 +7,8 @@ use Rattle.std.specs.Int.Bits.{xor_assoc, xor_self, xor_zero_r}
 use Rattle.std.proofs.lemmas.Nat.{xor_comm}
 use Rattle.gf256.specs.Field.{product, inverse}
 use Rattle.gf256.proofs.Laws.{product_zero_l, product_one_l}
-use Rattle.cauchy_code.specs.Code.{dot, cauchy, Bytes, Away, Distinct, Apart, Points, AllBelow}
+use Rattle.cauchy_code.specs.Code.{dot, cauchy_row, Bytes, Away, Distinct, AllBelow}
+use Rattle.cauchy_code.specs.Table.{Apart, Points}
 use Rattle.cauchy_code.proofs.Blocks.{below_bytes}
 use Rattle.cauchy_code.specs.Systematic.{In, Fit, byte_of, without, bytes_without, put, points, mixed_rows, share, mixed_table}
 use Rattle.gf256.proofs.Ring.{products, sums}
@@ -30,12 +31,12 @@ not_here k c cols e (inr later) = later
 
 -- a Cauchy row has its share of column k, and what is left of it has the other columns
 row_without : (n x k : ℕ) (cols ps : List ℕ) → In k cols → length ps ≡ length cols
-    → bit_xor (dot (cauchy x (points n cols)) ps) (product (inverse (bit_xor x (n + k))) (byte_of k cols ps)) ≡ dot (cauchy x (points n (without k cols))) (bytes_without k cols ps)
-unfolding dot cauchy points byte_of without bytes_without
+    → bit_xor (dot (cauchy_row x (points n cols)) ps) (product (inverse (bit_xor x (n + k))) (byte_of k cols ps)) ≡ dot (cauchy_row x (points n (without k cols))) (bytes_without k cols ps)
+unfolding dot cauchy_row points byte_of without bytes_without
 row_without n x k [] ps h long = absurd h
 row_without n x k (c ∷ cols) [] h long = absurd (omega arith)
 row_without n x k (c ∷ cols) (p ∷ ps) h long =
-    let rest = dot (cauchy x (points n cols)) ps in
+    let rest = dot (cauchy_row x (points n cols)) ps in
     elim (two (eqb k c)) [
       | inl e ↦
           let here : n + k ≡ n + c = ap (λ z. n + z) (eqb-true k c e) in
@@ -116,9 +117,9 @@ unfolding dot share mixed_rows
 share_dot n k [] ks xs cols ps h long away = rw (product_zero_l (byte_of k cols ps)) refl
 share_dot n k (w ∷ ws) [] [] cols ps h long away = rw (product_zero_l (byte_of k cols ps)) refl
 share_dot n k (w ∷ ws) [] (x ∷ xs) cols ps h long away =
-    gather w (inverse (bit_xor x (n + k))) (byte_of k cols ps) (dot (cauchy x (points n (without k cols))) (bytes_without k cols ps)) (dot (cauchy x (points n cols)) ps)
+    gather w (inverse (bit_xor x (n + k))) (byte_of k cols ps) (dot (cauchy_row x (points n (without k cols))) (bytes_without k cols ps)) (dot (cauchy_row x (points n cols)) ps)
     (dot ws (share n k [] xs)) (dot ws (mixed_rows n [] xs cols ps)) (sym (row_without n x k cols ps h long))
-    ∙ ap (bit_xor (product w (dot (cauchy x (points n (without k cols))) (bytes_without k cols ps)))) (share_dot n k ws [] xs cols ps h long away)
+    ∙ ap (bit_xor (product w (dot (cauchy_row x (points n (without k cols))) (bytes_without k cols ps)))) (share_dot n k ws [] xs cols ps h long away)
 share_dot n k (w ∷ ws) (j ∷ ks) xs cols ps h long away =
     gather w 0 (byte_of k cols ps) (byte_of j (without k cols) (bytes_without k cols ps)) (byte_of j cols ps)
     (dot ws (share n k ks xs)) (dot ws (mixed_rows n ks xs cols ps))

@@ -1,14 +1,14 @@
 //! Sums of parts.
 
 ghost use Rattle.std.specs.Prelude.{◌≡◌, ℕ, ◌+◌, ◌*◌, ◌<◌, ◌^◌, length, slice_index, EachIndex, bit_xor, IfOk, map};
-ghost use Rattle.std.specs.List.{range_with_len, concat};
+ghost use Rattle.std.specs.List.{range_with_len};
 ghost use Rattle.gf256.specs.Field.{product};
 ghost use Rattle.cauchy_code.specs.Code.{dot, column};
 ghost use Rattle.cauchy_code.specs.Table.{IsWide, given_parts};
 
-use bytes::Bytes;
 use gf_lanes::add_row;
-use std::alloc::{AllocError, Global};
+use pond_base::OutOfMemory;
+use std::alloc::Global;
 
 /// Adds `c` times the part that begins at `start` to `sum`. Zeros follow the bytes.
 fn add_part(sum: &mut [u8], c: u8, bytes: &[u8], start: usize)
@@ -27,7 +27,7 @@ pub fn combine(
     factors: &[u8],
     bytes: &[u8],
     part_len: usize,
-) -> Result<Vec<u8>, AllocError>
+) -> Result<Vec<u8>, OutOfMemory>
     requires { length factors.now * part_len < 2 ^ 64 }
     ensures { IfOk result (λ v. v.items ≡ map (λ j. dot factors.now (column (length factors.now) part_len bytes.now j)) (range_with_len 0 part_len)) }
 {
@@ -38,15 +38,18 @@ pub fn combine(
     Ok(sum)
 }
 
-/// The parts one after another.
-pub fn joined(alloc: Global, parts: &[(u8, Bytes)]) -> Result<Vec<u8>, AllocError>
-    ensures { IfOk result (λ v. v.items ≡ concat (map (λ p. p.1) parts.now)) }
+/// A part of a block: the bytes from `start` on, and zeros where the block has ended.
+pub fn part(
+    alloc: Global,
+    block: &[u8],
+    start: usize,
+    part_len: usize,
+) -> Result<Vec<u8>, OutOfMemory>
+    ensures { IfOk result (λ v. v.items ≡ map (λ j. slice_index block.now (start + j)) (range_with_len 0 part_len)) }
 {
-    let mut rows = Vec::new(alloc);
-    for part in parts {
-        rows.extend_from_slice(&part.1)?;
-    }
-    Ok(rows)
+    let mut part = vec![in alloc; 0; part_len]?;
+    add_part(&mut part, 1, block, start);
+    Ok(part)
 }
 
 /// The parts that a table gives of rows that stand one after another.
@@ -55,7 +58,7 @@ pub fn apply(
     table: &[Vec<u8>],
     rows: &[u8],
     part_len: usize,
-) -> Result<Vec<u8>, AllocError>
+) -> Result<Vec<u8>, OutOfMemory>
     requires square { IsWide (length table.now) (map (λ w. w.items) table.now) }
     requires fits { length table.now * part_len < 2 ^ 64 }
     ensures { IfOk result (λ v. v.items ≡ given_parts (length table.now) part_len rows.now (map (λ w. w.items) table.now)) }

@@ -1,11 +1,11 @@
 use Rattle.std.proofs.Common.{get_or}
-use Rattle.cauchy_code.specs.Code.{cauchy}
+use Rattle.cauchy_code.specs.Code.{cauchy_row}
 use Rattle.gf256.proofs.Ring.{xor_differ}
 use Rattle.cauchy_code.proofs.Steps.{cauchy_step_more, away_at}
 use Rattle.cauchy_code.proofs.table.row_factors.Goals as goal
 
 pub loop-y-init : goal.loop-y-init
-unfolding cauchy
+unfolding cauchy_row
 loop-y-init c = c.new-factors.ensures.items
 
 pub inv-requires : goal.inv-requires

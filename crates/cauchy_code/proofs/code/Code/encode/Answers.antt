@@ -6,5 +6,5 @@ use Rattle.cauchy_code.proofs.code.Code.encode.Goals as goal
 
 pub loop-i-preserved : goal.loop-i-preserved
 loop-i-preserved c =
-    rows_push (row c.args.self.now.m c.args.self.now.n c.args.block.now) (map (λ r. r.items) c.loop-i.rows.items) _ c.in_ok-row.field-0.items c.loop-i.i c.loop-i.invariant
+    rows_push (row c.args.self.now c.args.block.now) (map (λ r. r.items) c.loop-i.rows.items) _ c.in_ok-row.field-0.items c.loop-i.i c.loop-i.invariant
     (ap (map (λ r. r.items)) c.in_ok-push.ensures.items ∙ map-append (λ r. r.items) c.loop-i.rows.items (c.in_ok-row.field-0 ∷ [])) c.in_ok-row.ensures

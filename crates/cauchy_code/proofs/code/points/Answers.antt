@@ -1,6 +1,0 @@
-use Rattle.std.proofs.Common.{◌∙◌, sym, ap, ◌++◌, ◌∷◌, [], ◌+◌}
-use Rattle.cauchy_code.proofs.Blocks.{range_more}
-use Rattle.cauchy_code.proofs.code.points.Goals as goal
-
-pub loop-k-preserved : goal.loop-k-preserved
-loop-k-preserved c = c.in_ok-push.ensures.items ∙ ap (λ t. t ++ (c.args.n + c.loop-k.k) ∷ []) c.loop-k.invariant ∙ sym (range_more c.args.n c.loop-k.k)
