@@ -8,7 +8,7 @@ use Rattle.std.proofs.lemmas.Nat.{xor_comm}
 use Rattle.gf256.specs.Field.{product, inverse}
 use Rattle.gf256.proofs.Laws.{product_zero_l, product_one_l}
 use Rattle.cauchy_code.specs.Code.{dot, cauchy_row, Bytes, Away, Distinct, AllBelow}
-use Rattle.cauchy_code.specs.Table.{Apart, Points}
+use Rattle.cauchy_code.specs.Table.{Apart}
 use Rattle.cauchy_code.proofs.Blocks.{below_bytes}
 use Rattle.cauchy_code.specs.Systematic.{In, Fit, byte_of, without, bytes_without, put, points, mixed_rows, share, mixed_table}
 use Rattle.gf256.proofs.Ring.{products, sums}

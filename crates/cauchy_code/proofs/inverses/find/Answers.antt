@@ -1,4 +1,4 @@
-use Rattle.std.proofs.Common.{◌≡◌, ◌≢◌, ◌<◌, ◌+◌, ℕ, ◌∙◌, ap, sym, arith, length, List, get_or, map, below_more}
+use Rattle.std.proofs.Common.{◌≢◌, ◌∙◌, sym, arith, get_or, map, below_more}
 use Rattle.std.specs.Cmp.Lexicographic.{same_text, other_text}
 use Rattle.std.proofs.lemmas.List.{length-map}
 use Rattle.cauchy_code.proofs.Steps.{map_read}

@@ -1,4 +1,4 @@
-use Rattle.std.proofs.Common.{◌≡◌, ◌≢◌, ℕ, ◌<◌, get_or, map}
+use Rattle.std.proofs.Common.{◌≢◌, ℕ, ◌<◌, get_or, map}
 use Rattle.cauchy_code.proofs.inverses.find.Given as goal
 
 abbrev pub invariant-loop-entry : goal.invariant-loop-entry

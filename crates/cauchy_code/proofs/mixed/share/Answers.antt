@@ -1,4 +1,4 @@
-use Rattle.std.proofs.Common.{◌≡◌, ◌∙◌, sym, ap, get_or, bit_xor, ◌+◌, refl, arith, length, ◌<◌}
+use Rattle.std.proofs.Common.{sym, get_or, ◌+◌, arith}
 use Rattle.std.proofs.lemmas.Grind.{common_steps}
 use Rattle.cauchy_code.specs.Systematic.{share}
 use Rattle.gf256.proofs.Ring.{xor_differ}

@@ -1,4 +1,4 @@
-use Rattle.std.proofs.Common.{◌≡◌, true, false, ◌∙◌, ◌++◌, ap, sym, map, arith, length, take, take_all, ℕ, List, not}
+use Rattle.std.proofs.Common.{◌≡◌, true, false, ◌∙◌, ◌++◌, ap, sym, map, arith, take, take_all, not}
 use Rattle.std.specs.List.{concat}
 use Rattle.std.proofs.lemmas.List.{map-append}
 use Rattle.cauchy_code.specs.Code.{is_part}

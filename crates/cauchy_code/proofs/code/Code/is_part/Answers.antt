@@ -1,4 +1,4 @@
-use Rattle.std.proofs.Common.{◌≡◌, ◌∙◌, sym, ap, ◌&&◌, nat_lt}
+use Rattle.std.proofs.Common.{◌∙◌, sym, ap, ◌&&◌, nat_lt}
 use Rattle.cauchy_code.specs.Code.{is_part}
 use Rattle.cauchy_code.proofs.code.Code.is_part.Goals as goal
 

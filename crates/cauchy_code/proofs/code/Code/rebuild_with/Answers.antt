@@ -1,4 +1,4 @@
-use Rattle.std.proofs.Common.{◌≡◌, ◌≤◌, ◌<◌, ap, ◌∙◌, sym, map, take, length, rules, arith}
+use Rattle.std.proofs.Common.{◌≤◌, ◌<◌, ap, ◌∙◌, sym, map, take, length, rules, arith}
 use Rattle.std.proofs.lemmas.List.{length-map}
 use Rattle.cauchy_code.proofs.AnyRows.{table_square, ordered_fits, rebuilt_as}
 use Rattle.cauchy_code.proofs.code.Code.rebuild_with.Goals as goal
