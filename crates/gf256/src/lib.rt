@@ -1,0 +1,163 @@
+//! The field of 256 elements: a byte is a polynomial over the two elements, bit k being the factor
+//! of the k-th power, and products are taken modulo 0x11d. The sum of two bytes is `^`.
+//!
+//! This layer stands on nothing. The layers above use the clauses that tie each function to the
+//! definition (`product` by long multiplication and division, `inverse`), and the ring laws of the
+//! definition, which hold of all numbers since a product reads its factors modulo 256.
+#![tactic(auto)]
+
+ghost use Rattle.std.specs.Prelude.{◌≡◌, ◌≢◌, ◌<◌};
+ghost use Rattle.gf256.specs.Field.{product, inverse, power};
+
+/// The powers of 2 from exponent 0 on. They repeat after 255, and stand here twice, so that the sum
+/// of two exponents needs no remainder.
+const POWERS: [u8; 510] = [
+    1, 2, 4, 8, 16, 32, 64, 128, 29, 58, 116, 232, 205, 135, 19, 38, 76, 152, 45, 90, 180, 117,
+    234, 201, 143, 3, 6, 12, 24, 48, 96, 192, 157, 39, 78, 156, 37, 74, 148, 53, 106, 212, 181,
+    119, 238, 193, 159, 35, 70, 140, 5, 10, 20, 40, 80, 160, 93, 186, 105, 210, 185, 111, 222, 161,
+    95, 190, 97, 194, 153, 47, 94, 188, 101, 202, 137, 15, 30, 60, 120, 240, 253, 231, 211, 187,
+    107, 214, 177, 127, 254, 225, 223, 163, 91, 182, 113, 226, 217, 175, 67, 134, 17, 34, 68, 136,
+    13, 26, 52, 104, 208, 189, 103, 206, 129, 31, 62, 124, 248, 237, 199, 147, 59, 118, 236, 197,
+    151, 51, 102, 204, 133, 23, 46, 92, 184, 109, 218, 169, 79, 158, 33, 66, 132, 21, 42, 84, 168,
+    77, 154, 41, 82, 164, 85, 170, 73, 146, 57, 114, 228, 213, 183, 115, 230, 209, 191, 99, 198,
+    145, 63, 126, 252, 229, 215, 179, 123, 246, 241, 255, 227, 219, 171, 75, 150, 49, 98, 196, 149,
+    55, 110, 220, 165, 87, 174, 65, 130, 25, 50, 100, 200, 141, 7, 14, 28, 56, 112, 224, 221, 167,
+    83, 166, 81, 162, 89, 178, 121, 242, 249, 239, 195, 155, 43, 86, 172, 69, 138, 9, 18, 36, 72,
+    144, 61, 122, 244, 245, 247, 243, 251, 235, 203, 139, 11, 22, 44, 88, 176, 125, 250, 233, 207,
+    131, 27, 54, 108, 216, 173, 71, 142, 1, 2, 4, 8, 16, 32, 64, 128, 29, 58, 116, 232, 205, 135,
+    19, 38, 76, 152, 45, 90, 180, 117, 234, 201, 143, 3, 6, 12, 24, 48, 96, 192, 157, 39, 78, 156,
+    37, 74, 148, 53, 106, 212, 181, 119, 238, 193, 159, 35, 70, 140, 5, 10, 20, 40, 80, 160, 93,
+    186, 105, 210, 185, 111, 222, 161, 95, 190, 97, 194, 153, 47, 94, 188, 101, 202, 137, 15, 30,
+    60, 120, 240, 253, 231, 211, 187, 107, 214, 177, 127, 254, 225, 223, 163, 91, 182, 113, 226,
+    217, 175, 67, 134, 17, 34, 68, 136, 13, 26, 52, 104, 208, 189, 103, 206, 129, 31, 62, 124, 248,
+    237, 199, 147, 59, 118, 236, 197, 151, 51, 102, 204, 133, 23, 46, 92, 184, 109, 218, 169, 79,
+    158, 33, 66, 132, 21, 42, 84, 168, 77, 154, 41, 82, 164, 85, 170, 73, 146, 57, 114, 228, 213,
+    183, 115, 230, 209, 191, 99, 198, 145, 63, 126, 252, 229, 215, 179, 123, 246, 241, 255, 227,
+    219, 171, 75, 150, 49, 98, 196, 149, 55, 110, 220, 165, 87, 174, 65, 130, 25, 50, 100, 200,
+    141, 7, 14, 28, 56, 112, 224, 221, 167, 83, 166, 81, 162, 89, 178, 121, 242, 249, 239, 195,
+    155, 43, 86, 172, 69, 138, 9, 18, 36, 72, 144, 61, 122, 244, 245, 247, 243, 251, 235, 203, 139,
+    11, 22, 44, 88, 176, 125, 250, 233, 207, 131, 27, 54, 108, 216, 173, 71, 142,
+];
+
+/// The exponent below 255 of each byte: `POWERS[EXPONENTS[a]]` is `a`, for `a` other than 0.
+const EXPONENTS: [u8; 256] = [
+    0, 0, 1, 25, 2, 50, 26, 198, 3, 223, 51, 238, 27, 104, 199, 75, 4, 100, 224, 14, 52, 141, 239,
+    129, 28, 193, 105, 248, 200, 8, 76, 113, 5, 138, 101, 47, 225, 36, 15, 33, 53, 147, 142, 218,
+    240, 18, 130, 69, 29, 181, 194, 125, 106, 39, 249, 185, 201, 154, 9, 120, 77, 228, 114, 166, 6,
+    191, 139, 98, 102, 221, 48, 253, 226, 152, 37, 179, 16, 145, 34, 136, 54, 208, 148, 206, 143,
+    150, 219, 189, 241, 210, 19, 92, 131, 56, 70, 64, 30, 66, 182, 163, 195, 72, 126, 110, 107, 58,
+    40, 84, 250, 133, 186, 61, 202, 94, 155, 159, 10, 21, 121, 43, 78, 212, 229, 172, 115, 243,
+    167, 87, 7, 112, 192, 247, 140, 128, 99, 13, 103, 74, 222, 237, 49, 197, 254, 24, 227, 165,
+    153, 119, 38, 184, 180, 124, 17, 68, 146, 217, 35, 32, 137, 46, 55, 63, 209, 91, 149, 188, 207,
+    205, 144, 135, 151, 178, 220, 252, 190, 97, 242, 86, 211, 171, 20, 42, 93, 158, 132, 60, 57,
+    83, 71, 109, 65, 162, 31, 45, 67, 216, 183, 123, 164, 118, 196, 23, 73, 236, 127, 12, 111, 246,
+    108, 161, 59, 82, 41, 157, 85, 170, 251, 96, 134, 177, 187, 204, 62, 90, 203, 89, 95, 176, 156,
+    169, 160, 81, 11, 245, 22, 235, 122, 117, 44, 215, 79, 174, 213, 233, 230, 231, 173, 232, 116,
+    214, 244, 234, 168, 80, 88, 175,
+];
+
+/// 2 to the power of `exponent`.
+fn power(exponent: usize) -> u8
+    requires { exponent < 510 }
+    ensures { result ≡ power exponent }
+{
+    POWERS[exponent]
+}
+
+/// The exponent below 255 that gives `a`.
+fn exponent(a: u8) -> usize
+    requires { a ≢ 0 }
+    ensures within { result < 255 }
+    ensures found { power result ≡ a }
+{
+    EXPONENTS[a as usize] as usize
+}
+
+/// The product of two bytes, modulo 0x11d.
+pub fn mul(a: u8, b: u8) -> u8
+    ensures { result ≡ product a b }
+{
+    if a == 0 {
+        return 0;
+    }
+    if b == 0 {
+        return 0;
+    }
+    let i = exponent(a);
+    let j = exponent(b);
+    power(i + j)
+}
+
+/// The byte whose product with `a` is 1, which is the only one.
+pub fn inv(a: u8) -> u8
+    requires { a ≢ 0 }
+    ensures value { result ≡ inverse a }
+    ensures one { product a result ≡ 1 }
+{
+    let i = exponent(a);
+    power(255 - i)
+}
+
+/// The byte whose product with `b` is `a`: the product of `a` and the inverse of `b`.
+pub fn div(a: u8, b: u8) -> u8
+    requires { b ≢ 0 }
+    ensures value { result ≡ product a (inverse b) }
+    ensures back { product result b ≡ a }
+{
+    if a == 0 {
+        return 0;
+    }
+    let i = exponent(a);
+    let j = exponent(b);
+    power(i + 255 - j)
+}
+
+#[cfg(test)]
+mod tests {
+    use super::*;
+
+    #[test]
+    fn products(rt: HostRuntime) {
+        for (a, b, product) in [
+            (0x02, 0x80, 0x1d),
+            (0x53, 0xca, 0x8f),
+            (0xff, 0xff, 0xe2),
+            (0x00, 0x9d, 0x00),
+            (0x9d, 0x00, 0x00),
+            (0x9d, 0x01, 0x9d),
+        ] {
+            assert_eq!(rt; mul(a, b), product);
+        }
+    }
+
+    #[test]
+    fn inverses(rt: HostRuntime) {
+        for (a, inverse) in [
+            (0x01, 0x01),
+            (0x02, 0x8e),
+            (0x03, 0xf4),
+            (0x04, 0x47),
+            (0x05, 0xa7),
+            (0x06, 0x7a),
+            (0x07, 0xba),
+        ] {
+            if a != 0 {
+                assert_eq!(rt; inv(a), inverse);
+            }
+        }
+    }
+
+    #[test]
+    fn quotients(rt: HostRuntime) {
+        for (a, b, quotient) in [
+            (0x1d, 0x02, 0x80),
+            (0x01, 0x03, 0xf4),
+            (0x00, 0x07, 0x00),
+            (0x8f, 0xca, 0x53),
+        ] {
+            if b != 0 {
+                assert_eq!(rt; div(a, b), quotient);
+            }
+        }
+    }
+}

@@ -1,0 +1,12 @@
+-- Vectors of 32 bytes.
+use Rattle.std.specs.Prelude.{◌≡◌, ℕ, ◌<◌, ◌+◌, List, length, slice_index}
+
+-- v has 32 lanes, and lane k holds f k
+pub record HasLanes (v : List ℕ) (f : ℕ → ℕ) : Type 0 where
+  pub long : length v ≡ 32
+  pub each : (k : ℕ) → k < 32 → slice_index v k ≡ f k
+
+-- the last 16 lanes hold what the first 16 hold
+pub record Repeats (v : List ℕ) : Type 0 where
+  pub long : length v ≡ 32
+  pub each : (k : ℕ) → k < 16 → slice_index v (16 + k) ≡ slice_index v k
