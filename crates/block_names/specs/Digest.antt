@@ -1,5 +1,5 @@
 -- The length of a SHA-1 digest.
-use Rattle.std.specs.Prelude.{◌≡◌, ℕ, zero, suc, ◌*◌, ◌++◌, List, length, slice_index, refl}
+use Rattle.std.specs.Prelude.{◌≡◌, ℕ, zero, suc, ◌*◌, ◌==◌, true, false, if◌then◌else◌, List, length, slice_index, filter, refl}
 use Rattle.std.proofs.Common.{arith, length-append}
 use Rattle.std.specs.Int.{w32, to_be_bytes}
 use Rattle.sha1.specs.Sha1.{sha1, digest_bytes}
@@ -17,3 +17,7 @@ length-digest_bytes words (suc n) =
 pub length-sha1 : (bytes : List ℕ) → length (sha1 bytes) ≡ 20
 unfolding sha1
 length-sha1 bytes = length-digest_bytes _ 5
+
+-- the bytes that are not ee
+abbrev pub folded : List ℕ → List ℕ
+folded bytes = filter (λ byte. if byte == 238 then false else true) bytes

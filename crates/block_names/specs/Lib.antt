@@ -1,1 +1,4 @@
 pub mod Digest
+pub mod Faults
+pub mod Growth
+pub mod Held
