@@ -1,0 +1,5 @@
+pub mod Folds
+pub mod Laws
+pub mod Pieces
+pub mod Trees
+pub mod Updates

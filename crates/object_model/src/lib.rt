@@ -1,0 +1,51 @@
+//! Objects as definitions: versions, updates, requests one after the other, and the strings of versions.
+//!
+//! It stands on the values of guarded_update and the strings of tree_format. The versions of an object
+//! are a list of byte strings with the newest first, and a list of requests has the newest first too, so
+//! that each definition is one recursion. `Updates` says what a guard holds of and what an update makes,
+//! `Folds` what a list of requests makes, `Trees` of which strings a version is made, and which are new
+//! in it. The functions below have no code; their contracts are laws of the definitions. The layers
+//! above prove that trees and objects stand for these lists.
+#![tactic(auto)]
+
+ghost use Rattle.object_model.specs.Laws as law;
+
+/// The leaves of a content hold the content, and nothing else.
+pub fn pieces_are_the_content()
+    ensures { law.PiecesAreTheContent }
+{}
+
+/// An update makes no version above the length that versions may have.
+pub fn versions_are_short()
+    ensures { law.VersionsAreShort }
+{}
+
+/// A request makes at most one version of an object, on top of the older ones.
+pub fn versions_stay()
+    ensures { law.VersionsStay }
+{}
+
+/// A request changes no object but that of its label.
+pub fn other_objects_stay()
+    ensures { law.OtherObjectsStay }
+{}
+
+/// A request of a client and number that were executed before changes nothing.
+pub fn repeats_make_nothing()
+    ensures { law.RepeatsMakeNothing }
+{}
+
+/// Each action on five bytes.
+pub fn worked_actions()
+    ensures { law.WorkedActions }
+{}
+
+/// Updates with guards, with a failing action, and without a clause that holds.
+pub fn worked_updates()
+    ensures { law.WorkedUpdates }
+{}
+
+/// The strings of small contents.
+pub fn worked_trees()
+    ensures { law.WorkedTrees }
+{}
