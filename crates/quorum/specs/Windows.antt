@@ -17,12 +17,15 @@ pub record Votes : Type 0 where
   pub floor : ℕ
   pub slots : Slots
 
+-- ten first votes are stored as a list
 abbrev pub coded_tally : Coded (List (Option (List ℕ)))
 coded_tally = coded_list (coded_option (coded_list coded_ℕ))
 
+-- what is kept of a slot is stored as its two tallies
 abbrev pub coded_slot : Coded Slot
 coded_slot = code_by (List (Option (List ℕ)) × List (Option (List ℕ))) (coded× coded_tally coded_tally) (λ s. (s.prepares, s.commits)) (λ p. record { prepares = p.0; commits = p.1 }) (λ _. refl)
 
+-- a window is stored as its floor and what it keeps
 abbrev pub coded_votes : Coded Votes
 coded_votes = code_by (ℕ × Slots) (coded× coded_ℕ (map.code coded_ℕ coded_slot)) (λ v. (v.floor, v.slots)) (λ p. record { floor = p.0; slots = p.1 }) (λ _. refl)
 

@@ -1,6 +1,6 @@
 // The calls once on their happy path, by tables of votes.
 use super::*;
-use pond_base::{MemberId, Name, OutOfMemory, Seq};
+use pond_base::{MemberId, Name, Seq};
 use std::test::Fail;
 
 fn name(byte: u8) -> Name {
