@@ -35,6 +35,11 @@ pub fn repeats_make_nothing()
     ensures { law.RepeatsMakeNothing }
 {}
 
+/// The root of each version within the limits has a root string.
+pub fn roots_are_in_the_grammar()
+    ensures { law.RootsAreInTheGrammar }
+{}
+
 /// Each action on five bytes.
 pub fn worked_actions()
     ensures { law.WorkedActions }
