@@ -1,11 +1,11 @@
 -- The roots of versions are roots.
-use Rattle.std.proofs.Common.{◌≡◌, ℕ, zero, suc, ◌<◌, ◌≤◌, ◌^◌, List, [], ◌∷◌, ◌++◌, length, map, refl, ap, sym, ◌∙◌, arith}
+use Rattle.std.proofs.Common.{◌≡◌, ℕ, ◌<◌, ◌≤◌, ◌^◌, List, [], ◌∷◌, length, map, refl, ap, ◌∙◌, arith}
 use Rattle.std.specs.List.{flat_map, fold}
 use Rattle.std.proofs.lemmas.List.{length-map}
 use Rattle.tree_format.specs.Strings.{leaf_string, root_string, height_over, no_name}
 use Rattle.tree_format.specs.Grammar.{IsRoot}
 use Rattle.object_model.specs.Pieces.{pieces}
-use Rattle.object_model.specs.Trees.{leaf_row, rows_from, strings_of, height_of, last_name, version_name, root_after, root_of}
+use Rattle.object_model.specs.Trees.{leaf_row, rows_from, strings_of, last_name, version_name, root_after, root_of}
 use Rattle.object_model.specs.Updates.{largest}
 use Rattle.object_model.proofs.PieceLemmas.{pieces_nil, count_pieces}
 

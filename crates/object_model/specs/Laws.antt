@@ -1,10 +1,9 @@
 -- What follows from the definitions, and worked cases of them.
-use Rattle.std.specs.Prelude.{◌≡◌, ◌⊎◌, ◌<◌, ◌≤◌, ◌^◌, ℕ, Bool, true, false, List, [], ◌∷◌, ◌++◌, length, replicate, Result, Ok, Err}
+use Rattle.std.specs.Prelude.{◌≡◌, ◌⊎◌, ◌<◌, ◌≤◌, ◌^◌, ℕ, true, false, List, [], ◌∷◌, length, replicate, Result, Ok, Err}
 use Rattle.std.specs.List.{flat_map, list_any}
 use Rattle.std.specs.Str.{bytes_eq}
 use Rattle.guarded_update.specs.declared.update.Action.{Action}
 use Rattle.guarded_update.specs.declared.update.Action.TheVariants.{Replace, Append, Truncate, Splice}
-use Rattle.guarded_update.specs.declared.update.Guard.{Guard}
 use Rattle.guarded_update.specs.declared.update.Guard.TheVariants.{SizeIs}
 use Rattle.guarded_update.specs.declared.update.Clause.{Clause}
 use Rattle.guarded_update.specs.declared.request.Request.{Request}
@@ -12,7 +11,7 @@ use Rattle.tree_format.specs.Strings.{leaf_string, inner_string}
 use Rattle.tree_format.specs.Grammar.{IsRoot}
 use Rattle.object_model.specs.Pieces.{pieces}
 use Rattle.object_model.specs.Trees.{strings_of, root_of, version_strings, strings_so_far, stands_in, new_strings}
-use Rattle.object_model.specs.Updates.{Refusal, NoClause, OutOfRange, TooLong, act, act_all, largest, outcome}
+use Rattle.object_model.specs.Updates.{Refusal, NoClause, OutOfRange, act, act_all, largest, outcome}
 use Rattle.object_model.specs.Folds.{same_number, made_by, versions_after}
 
 -- the pieces of a content, one after the other, are the content
