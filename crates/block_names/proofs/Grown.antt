@@ -4,15 +4,17 @@ use Rattle.std.specs.FinMap as map
 use Rattle.std.specs.Ordering.{nat_cmp, eq_by_cmp}
 use Rattle.std.specs.Cmp.{eq_by_cmp_equiv}
 use Rattle.std.specs.Cmp.Lexicographic.{slice_cmp, nat_list_cmp_total}
-use Rattle.block_names.specs.Held.{Held}
+use Rattle.block_names.specs.Held.{Held, IsNamed}
 use Rattle.block_names.specs.Growth.{IsFree, Holds, Grew, IsClashIn, IsFaultAt, keep_all}
 use Rattle.block_names.specs.declared.fault.NameFault.{NameFault}
 use Rattle.block_names.specs.declared.fault.NameFault.TheVariants.{Clash, Memory}
 use Rattle.block_names.proofs.Map.{same_key, held_again}
 
+-- a book that names nothing holds what it held
 pub grew_none : (h : List ℕ → List ℕ) (held : Held) (Of : List ℕ → Type 0) → Grew h held Of held
 grew_none h held Of = record { kept = λ name s e. e; new = λ name s e. inl e }
 
+-- a string more, where no other stands under its name
 pub grew_one : (h : List ℕ → List ℕ) (held : Held) (t : List ℕ) → IsFree held (h t) t → Grew h held (λ s. s ≡ t) (map.insert held (h t) t)
 grew_one h held t free = record {
   kept = λ name s e. map.get-insert nat_list_cmp_total held (h t) t name
@@ -27,6 +29,7 @@ grew_one h held t free = record {
       ] refl (sym (map.get-insert nat_list_cmp_total held (h t) t name) ∙ e);
 }
 
+-- first strings of one kind, and then of another
 pub grew_then : (h : List ℕ → List ℕ) (a b c : Held) (Xs Ys Zs : List ℕ → Type 0) → ((s : List ℕ) → Xs s → Zs s) → ((s : List ℕ) → Ys s → Zs s) → Grew h a Xs b → Grew h b Ys c → Grew h a Zs c
 grew_then h a b c Xs Ys Zs left right f g = record {
   kept = λ name s e. g.kept name s (f.kept name s e);
@@ -36,14 +39,17 @@ grew_then h a b c Xs Ys Zs left right f g = record {
   ];
 }
 
+-- a clash of a string of a kind is one of a wider kind
 pub clash_wider : (h : List ℕ → List ℕ) (now : Held) (Xs Zs : List ℕ → Type 0) (f : NameFault) → ((s : List ℕ) → Xs s → Zs s) → IsClashIn h now Xs f → IsClashIn h now Zs f
 clash_wider h now Xs Zs (Clash old new) more c = (c.0, c.1, more new c.2)
 clash_wider h now Xs Zs Memory more c = tt
 
+-- the same, by equations
 pub grew_made : (h : List ℕ → List ℕ) (held now : Held) (name t : List ℕ) → name ≡ h t → IsFree held name t → now ≡ map.insert held name t → Grew h held (λ s. s ≡ t) now
 grew_made h held now name t is free made =
     subst (λ m. Grew h held (λ s. s ≡ t) m) (sym (made ∙ ap (λ n. map.insert held n t) is)) (grew_one h held t (subst (λ n. IsFree held n t) is free))
 
+-- a clash under a name is a clash of the string that has it
 pub clash_at : (h : List ℕ → List ℕ) (held now : Held) (name t : List ℕ) (f : NameFault) → name ≡ h t → now ≡ held → IsFaultAt held name t f → IsClashIn h now (λ s. s ≡ t) f
 clash_at h held now name t (Clash old new) is same c = (ap (λ m. map.get m (h new)) same ∙ ap (map.get held) (ap h c.2 ∙ sym is) ∙ c.0, λ e. c.1 (e ∙ c.2), c.2)
 clash_at h held now name t Memory is same c = tt
@@ -62,6 +68,11 @@ now_held h held t =
 pub held_same : (h : List ℕ → List ℕ) (held : Held) (t : List ℕ) → Holds h held t → map.insert held (h t) t ≡ held
 held_same h held t holds = sym (held_again held (h t) t holds)
 
+-- to keep strings, and then others, is to keep both
 pub keep_append : (h : List ℕ → List ℕ) (xs ys : List (List ℕ)) (held : Held) → keep_all h (xs ++ ys) held ≡ keep_all h ys (keep_all h xs held)
 keep_append h [] ys held = refl
 keep_append h (x ∷ xs) ys held = keep_append h xs ys (map.insert held (h x) x)
+
+-- strings stand under their names still
+pub named_still : (h : List ℕ → List ℕ) (held now : Held) (Of : List ℕ → Type 0) → IsNamed h held → Grew h held Of now → IsNamed h now
+named_still h held now Of named grew = λ name string is. elim (grew.new name string is) as (λ _. h string ≡ name) [ inl before ↦ named name string before | inr more ↦ sym more.0 ]

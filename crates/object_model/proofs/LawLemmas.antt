@@ -1,14 +1,13 @@
 -- The laws of objects.
-use Rattle.std.proofs.Common.{◌≡◌, ◌⊎◌, ℕ, zero, suc, ◌+◌, ◌-◌, ◌<◌, ◌≤◌, Bool, true, false, cond, List, [], ◌∷◌, ◌++◌, length, take, drop, map, filter, nat_le, Result, Ok, Err, refl, ap, sym, subst, ◌∙◌, inl, inr, arith, length-append, length-drop, length-take-le, take-append-drop}
+use Rattle.std.proofs.Common.{◌≡◌, ℕ, zero, suc, ◌+◌, ◌-◌, ◌<◌, ◌≤◌, Bool, true, false, cond, List, [], ◌∷◌, ◌++◌, length, take, drop, map, filter, nat_le, Result, Ok, Err, refl, ap, subst, ◌∙◌, inl, inr, arith, length-append, length-drop, length-take-le, take-append-drop}
 use Rattle.std.proofs.lemmas.Bool.{leb-true}
-use Rattle.std.specs.List.{flat_map, list_any}
+use Rattle.std.specs.List.{flat_map}
 use Rattle.std.specs.Str.{bytes_eq}
 use Rattle.guarded_update.specs.declared.update.Action.{Action}
 use Rattle.guarded_update.specs.declared.update.Action.TheVariants.{Replace, Append, Truncate, Splice}
-use Rattle.guarded_update.specs.declared.request.Request.{Request}
 use Rattle.object_model.specs.Pieces.{pieces}
 use Rattle.object_model.specs.Updates.{Refusal, OutOfRange, TooLong, act, and_then, act_all, largest, spliced}
-use Rattle.object_model.specs.Folds.{Made, Effect, Makes, Refuses, Repeats, same_number, effect, with_effect, versions_of, made_by}
+use Rattle.object_model.specs.Folds.{Made, Effect, Makes, Refuses, Repeats, with_effect, versions_of}
 use Rattle.object_model.specs.Laws.{IsOneMore}
 use Rattle.object_model.proofs.PieceLemmas.{pieces_cons, pieces_nil}
 

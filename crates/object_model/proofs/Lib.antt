@@ -1,2 +1,4 @@
 pub mod LawLemmas
+pub mod NewLemmas
 pub mod PieceLemmas
+pub mod RootLemmas

@@ -1,17 +1,17 @@
 -- What follows from the definitions, and worked cases of them.
-use Rattle.std.specs.Prelude.{◌≡◌, ◌⊎◌, ◌<◌, ◌≤◌, ℕ, Bool, true, false, List, [], ◌∷◌, ◌++◌, length, replicate, Result, Ok, Err}
+use Rattle.std.specs.Prelude.{◌≡◌, ◌⊎◌, ◌<◌, ◌≤◌, ◌^◌, ℕ, true, false, List, [], ◌∷◌, length, replicate, Result, Ok, Err}
 use Rattle.std.specs.List.{flat_map, list_any}
 use Rattle.std.specs.Str.{bytes_eq}
 use Rattle.guarded_update.specs.declared.update.Action.{Action}
 use Rattle.guarded_update.specs.declared.update.Action.TheVariants.{Replace, Append, Truncate, Splice}
-use Rattle.guarded_update.specs.declared.update.Guard.{Guard}
 use Rattle.guarded_update.specs.declared.update.Guard.TheVariants.{SizeIs}
 use Rattle.guarded_update.specs.declared.update.Clause.{Clause}
 use Rattle.guarded_update.specs.declared.request.Request.{Request}
 use Rattle.tree_format.specs.Strings.{leaf_string, inner_string}
+use Rattle.tree_format.specs.Grammar.{IsRoot}
 use Rattle.object_model.specs.Pieces.{pieces}
-use Rattle.object_model.specs.Trees.{strings_of}
-use Rattle.object_model.specs.Updates.{Refusal, NoClause, OutOfRange, TooLong, act, act_all, largest, outcome}
+use Rattle.object_model.specs.Trees.{strings_of, root_of, version_strings, strings_so_far, stands_in, new_strings}
+use Rattle.object_model.specs.Updates.{Refusal, NoClause, OutOfRange, act, act_all, largest, outcome}
 use Rattle.object_model.specs.Folds.{same_number, made_by, versions_after}
 
 -- the pieces of a content, one after the other, are the content
@@ -40,6 +40,21 @@ OtherObjectsStay = (h : List ℕ → List ℕ) (block : ℕ) (label : List ℕ) 
 abbrev pub RepeatsMakeNothing : Type 0
 RepeatsMakeNothing = (h : List ℕ → List ℕ) (block : ℕ) (request : Request) (earlier : List Request)
     → list_any (same_number request) earlier ≡ true → made_by h block (request ∷ earlier) ≡ made_by h block earlier
+
+-- the roots of versions within the limits have root strings
+abbrev pub RootsAreInTheGrammar : Type 0
+RootsAreInTheGrammar = (h : List ℕ → List ℕ) (block : ℕ) (content : List ℕ) (older : List (List ℕ)) → ((string : List ℕ) → length (h string) ≡ 20)
+    → 64 ≤ block → block ≤ 8192 → length content ≤ largest → length older < 2 ^ 32 → (older ≡ [] → content ≡ []) → IsRoot (root_of h block content older)
+
+-- no string that is new in a version is one of an older version
+abbrev pub NewStringsAreNew : Type 0
+NewStringsAreNew = (h : List ℕ → List ℕ) (block : ℕ) (content : List ℕ) (older : List (List ℕ)) (string : List ℕ)
+    → stands_in string (new_strings h block content older) ≡ true → stands_in string (strings_so_far h block older) ≡ false
+
+-- each string of a version is one of an older version or new
+abbrev pub NoStringIsLeftOut : Type 0
+NoStringIsLeftOut = (h : List ℕ → List ℕ) (block : ℕ) (content : List ℕ) (older : List (List ℕ)) (string : List ℕ) → stands_in string (version_strings h block content older) ≡ true
+    → (stands_in string (strings_so_far h block older) ≡ true) ⊎ (stands_in string (new_strings h block content older) ≡ true)
 
 -- the bytes of the text hello
 abbrev pub hello : List ℕ

@@ -1,6 +1,6 @@
 -- The strings of versions. The versions of an object are a list of byte strings, the newest first, that ends with the empty
 -- one. Throughout, h names byte strings, and block is how many bytes a whole leaf has.
-use Rattle.std.specs.Prelude.{ℕ, zero, suc, List, [], ◌∷◌, ◌++◌, map, length, nat_lt, ◌*◌, Option, Some, None, if◌then◌else◌}
+use Rattle.std.specs.Prelude.{ℕ, zero, suc, Bool, List, [], ◌∷◌, ◌++◌, map, length, nat_lt, ◌*◌, Option, Some, None, if◌then◌else◌}
 use Rattle.std.specs.List.{flat_map, fold, list_any}
 use Rattle.std.specs.Str.{bytes_eq}
 use Rattle.std.specs.Fork.{slice_chunk}
@@ -66,11 +66,15 @@ abbrev pub strings_so_far : (List ℕ → List ℕ) → ℕ → List (List ℕ) 
 strings_so_far h block [] = []
 strings_so_far h block (content ∷ older) = strings_so_far h block older ++ version_strings h block content older
 
+-- whether a string is one of a list
+abbrev pub stands_in : List ℕ → List (List ℕ) → Bool
+stands_in string strings = list_any (bytes_eq string) strings
+
 -- the strings that are not among the known ones, each at its first place alone
 abbrev pub first_times : List (List ℕ) → List (List ℕ) → List (List ℕ)
 first_times known [] = []
 first_times known (string ∷ strings) =
-    if list_any (bytes_eq string) known then first_times known strings else string ∷ first_times (string ∷ known) strings
+    if stands_in string known then first_times known strings else string ∷ first_times (string ∷ known) strings
 
 -- the strings of a version that no older one has
 abbrev pub new_strings : (List ℕ → List ℕ) → ℕ → List ℕ → List (List ℕ) → List (List ℕ)

@@ -35,6 +35,21 @@ pub fn repeats_make_nothing()
     ensures { law.RepeatsMakeNothing }
 {}
 
+/// The root of each version within the limits has a root string.
+pub fn roots_are_in_the_grammar()
+    ensures { law.RootsAreInTheGrammar }
+{}
+
+/// A string that is new in a version is in no older one.
+pub fn new_strings_are_new()
+    ensures { law.NewStringsAreNew }
+{}
+
+/// A string of a version is in an older one or new.
+pub fn no_string_is_left_out()
+    ensures { law.NoStringIsLeftOut }
+{}
+
 /// Each action on five bytes.
 pub fn worked_actions()
     ensures { law.WorkedActions }
