@@ -1,5 +1,5 @@
 -- The other direction of the table: which answers remain where the outside is as told.
-use Rattle.std.specs.Prelude.{◌≡◌, ◌≤◌, ◌<◌, ◌⊎◌, ℕ, List, length, None, Some, IfSome}
+use Rattle.std.specs.Prelude.{◌≡◌, ◌<◌, ◌⊎◌, List, length, None, Some, IfSome}
 use Rattle.script_model.specs.Script.{Event, script_of}
 use Rattle.script_text.specs.declared.cause.Cause.TheVariants.{Verb}
 use Rattle.pond.specs.declared.status.Status.{Status}

@@ -1,5 +1,5 @@
 -- A label that is copied into a room of zeros.
-use Rattle.std.proofs.Common.{◌≡◌, ◌+◌, ◌-◌, ◌≤◌, ◌++◌, ℕ, List, Bool, true, false, length, take, drop, arith, refl, ap, sym, ◌∙◌, ◌&&◌, nat_le, length-append}
+use Rattle.std.proofs.Common.{◌≡◌, ◌+◌, ◌-◌, ◌≤◌, ◌++◌, ℕ, List, Bool, true, false, length, drop, arith, refl, ap, ◌∙◌, ◌&&◌, nat_le, length-append}
 use Rattle.std.specs.Prelude.{replicate}
 use Rattle.std.proofs.Math.Seq.{take-append_seam, drop-append_seam}
 use Rattle.std.proofs.lemmas.List.{drop-replicate, length-replicate}

@@ -1,6 +1,6 @@
 -- The lines of a text, and the text of lines.
-use Rattle.std.proofs.Common.{◌≡◌, ◌+◌, ◌≤◌, ◌∷◌, [], ◌++◌, ◌==◌, ◌⊎◌, inl, inr, ℕ, List, Bool, true, false, length, cond, arith, refl, sym, ap, ◌∙◌, subst, append_assoc, append-nil}
-use Rattle.std.specs.List.{flat_map, onto_first, AllByRecursion}
+use Rattle.std.proofs.Common.{◌≡◌, ◌≤◌, ◌∷◌, [], ◌++◌, ◌==◌, ◌⊎◌, inl, inr, ℕ, List, true, false, length, cond, arith, refl, sym, ap, ◌∙◌, subst, append_assoc, append-nil}
+use Rattle.std.specs.List.{onto_first, AllByRecursion}
 use Rattle.script_model.specs.Script.{lines_of}
 use Rattle.script_model.specs.Spelling.{IsLine, ended, AreLines}
 
@@ -37,10 +37,13 @@ onto_more byte bytes [] is all e = elim e [
   | inl whole ↦ (((is, tt), tt), inr ([], byte ∷ [], refl, omega arith, ap (λ t. byte ∷ t) whole))
   | inr last ↦ absurd (no_lines last.0 last.1 last.2)
 ]
-onto_more byte bytes (line ∷ lines) is all e = (((is, all.0), all.1), elim e [
-  | inl whole ↦ inl (ap (λ t. byte ∷ t) whole)
-  | inr last ↦ onto_last byte bytes line lines last.0 last.1 last.2 last.3 last.4
-])
+onto_more byte bytes (line ∷ lines) is all e = (
+  ((is, all.0), all.1),
+  elim e [
+    | inl whole ↦ inl (ap (λ t. byte ∷ t) whole)
+    | inr last ↦ onto_last byte bytes line lines last.0 last.1 last.2 last.3 last.4
+  ],
+)
 
 is_feed : (byte : ℕ) → (byte == 10) ≡ true → byte ≡ 10
 is_feed byte e = grind (arith, e)

@@ -1,5 +1,5 @@
 -- A text cut at the first byte that passes a test.
-use Rattle.std.proofs.Common.{◌≡◌, ◌+◌, ◌-◌, ◌≤◌, [], ◌++◌, ℕ, List, None, Some, Bool, true, false, length, take, drop, cond, position, arith, refl, sym, ap, nat_lt}
+use Rattle.std.proofs.Common.{◌≡◌, ◌+◌, ◌-◌, ◌≤◌, [], ℕ, List, None, Some, Bool, true, false, length, take, drop, cond, position, arith, refl, sym, ap, nat_lt}
 use Rattle.std.specs.List.{before_first, after_first, position_or_len}
 use Rattle.std.proofs.lemmas.Grind.{common_steps}
 

@@ -1,14 +1,14 @@
 -- A cast beside a letter, and a count beside the members' first words.
-use Rattle.std.proofs.Common.{◌≡◌, ℕ, zero, suc, ◌+◌, ◌*◌, ◌<◌, ◌≤◌, [], count_by, bytes_eq, Bool, true, false, cond, List, ◌∷◌, Option, Some, None, refl, sym, ap, ◌∙◌, arith, nat_lt, ◌==◌}
+use Rattle.std.proofs.Common.{◌≡◌, ℕ, zero, suc, ◌+◌, ◌*◌, ◌<◌, ◌≤◌, [], count_by, Bool, true, false, cond, List, ◌∷◌, Option, Some, None, refl, ap, ◌∙◌, arith, nat_lt, ◌==◌}
 use Rattle.std.specs.Option.{option_or}
 use Rattle.std.proofs.lemmas.Bool.Decides.{nat_tests}
 use Rattle.ring_model.specs.Messages.{Letter, Message, Member, Client, Party, Ring, same_party}
-use Rattle.ring_model.specs.History.{first_word, said_by, is_name, voters}
+use Rattle.ring_model.specs.History.{first_word, said_by, is_name}
 use Rattle.quorum.specs.declared.phase.Phase.{Phase}
 use Rattle.quorum.specs.declared.phase.Phase.TheVariants.{Prepare, Commit}
 use Rattle.quorum.specs.Slots.{said}
-use Rattle.quorum.specs.Windows.{Votes, first, said_above}
-use Rattle.vote_model.specs.Joins.{says, letter, AgreesWith, CastJoins, CountJoins}
+use Rattle.quorum.specs.Windows.{said_above}
+use Rattle.vote_model.specs.Joins.{says, letter, CastJoins, CountJoins}
 use Rattle.std.specs.List.{range_with_len, AllByRecursion as Each}
 use Rattle.std.proofs.lemmas.List.Sums.{sum_by-cons}
 use Rattle.std.proofs.lemmas.Bool.{ne_eqb}

@@ -1,5 +1,4 @@
-use Rattle.std.proofs.Common.{◌≡◌, ◌∙◌, sym, subst, List, ℕ, ◌++◌, length, drop, replicate}
-use Rattle.pond_base.specs.Padded.{IsPadded}
+use Rattle.std.proofs.Common.{◌∙◌, sym}
 use Rattle.pond_base.proofs.Rooms.{is_padded}
 use Rattle.pond_base.proofs.label.Label.read.Goals as goal
 
