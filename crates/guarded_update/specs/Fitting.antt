@@ -1,5 +1,5 @@
 -- Which requests have a spelling.
-use Rattle.std.specs.Prelude.{◌≡◌, ℕ, ◌+◌, ◌^◌, ◌<◌, Bool, true, ◌&&◌, ◌||◌, List, length, nat_le, nat_lt, map, sum, IsTrue}
+use Rattle.std.specs.Prelude.{◌≡◌, ℕ, ◌^◌, ◌<◌, Bool, true, ◌&&◌, ◌||◌, List, length, nat_le, nat_lt, map, sum, IsTrue}
 use Rattle.std.specs.List.{list_all, AllByRecursion}
 use Rattle.pond_base.specs.Label.{is_label}
 use Rattle.guarded_update.specs.declared.update.Action.{Action}

@@ -7,7 +7,6 @@ use Rattle.guarded_update.specs.declared.update.Action.TheVariants.{Replace, App
 use Rattle.guarded_update.specs.declared.update.Guard.{Guard}
 use Rattle.guarded_update.specs.declared.update.Guard.TheVariants.{VersionIs, SizeIs, BlockIs}
 use Rattle.guarded_update.specs.declared.update.Clause.{Clause}
-use Rattle.guarded_update.specs.declared.update.Update.{Update}
 use Rattle.guarded_update.specs.declared.request.Request.{Request}
 
 abbrev pub number : ℕ → List ℕ

@@ -92,7 +92,9 @@ fn other_bytes_are_no_request(rt: HostRuntime) -> Result<(), Fail> {
     }
     for digits in [APPEND, SPLICE, ALL] {
         let mut bytes = hex::decode(alloc, digits)?;
-        let less = &bytes.as_slice()[..bytes.len() - 1];
+        let Some((_last, less)) = bytes.as_slice().split_last() else {
+            return Err(Fail::new("no bytes"));
+        };
         assert!(rt; matches!(read(alloc, less), Err(RequestFault::BadRequest)));
         bytes.push(0)?;
         assert!(rt; matches!(read(alloc, bytes.as_slice()), Err(RequestFault::BadRequest)));
@@ -108,8 +110,8 @@ fn request_of(
     actions: u8,
     content: u32,
 ) -> Result<Bytes, Fail> {
-    let mut out = hex::decode(alloc, "060000000001016100")?;
-    out[8] = clauses;
+    let mut out = hex::decode(alloc, "0600000000010161")?;
+    out.push(clauses)?;
     for _clause in 0..clauses {
         out.push(guards)?;
         for _guard in 0..guards {

@@ -22,8 +22,9 @@ fn leaf_strings(rt: HostRuntime) -> Result<(), Fail> {
 
 #[test]
 fn inner_strings(rt: HostRuntime) -> Result<(), Fail> {
-    let names = [Name::from_bytes([7; 20]), Name::from_bytes([9; 20])];
-    let string = write_inner(rt.alloc(), &names)?;
+    let first = Name::from_bytes([7; 20]);
+    let second = Name::from_bytes([9; 20]);
+    let string = write_inner(rt.alloc(), &[first, second])?;
     let digits = "0202\
                   0707070707070707070707070707070707070707\
                   0909090909090909090909090909090909090909";
@@ -33,14 +34,14 @@ fn inner_strings(rt: HostRuntime) -> Result<(), Fail> {
     );
     let inner = read_inner(string.as_slice())?;
     assert_eq!(rt; inner.count(), 2);
-    assert_eq!(rt; inner.name(0), names[0]);
-    assert_eq!(rt; inner.name(1), names[1]);
+    assert_eq!(rt; inner.name(0), first);
+    assert_eq!(rt; inner.name(1), second);
     let mut longest = [0; 1303];
     longest[0] = 2;
     longest[1] = 64;
     assert!(rt; read_inner(&longest[..1282]).is_ok());
-    for count in [1281, 1283, 1302] {
-        assert!(rt; read_inner(&longest[..count]).is_err());
+    for bytes in [&longest[..1281], &longest[..1283], &longest[..1302]] {
+        assert!(rt; read_inner(bytes).is_err());
     }
     longest[1] = 65;
     assert!(rt; read_inner(&longest[..1302]).is_err());
@@ -69,14 +70,20 @@ fn root_strings(rt: HostRuntime) -> Result<(), Fail> {
         digits
     );
     assert_eq!(rt; read_root(string.as_slice())?, root);
-    let mut bytes = [0; 55];
-    bytes[..54].copy_from_slice(string.as_slice());
-    for count in [0, 53, 55] {
-        assert_eq!(rt; read_root(&bytes[..count]), Err(Malformed));
-    }
+    let mut bytes = hex::decode(rt.alloc(), digits)?;
+    let Some((_last, less)) = bytes.as_slice().split_last() else {
+        return Err(Fail::new("no bytes"));
+    };
+    assert_eq!(rt; read_root(less), Err(Malformed));
+    bytes.push(0)?;
+    assert_eq!(rt; read_root(bytes.as_slice()), Err(Malformed));
     // The height is that of the length and the block.
-    bytes[13] = 0;
-    assert_eq!(rt; read_root(&bytes[..54]), Err(Malformed));
+    let low = "03000001020000004100000040\
+               00\
+               0707070707070707070707070707070707070707\
+               0909090909090909090909090909090909090909";
+    let bytes = hex::decode(rt.alloc(), low)?;
+    assert_eq!(rt; read_root(bytes.as_slice()), Err(Malformed));
     Ok(())
 }
 

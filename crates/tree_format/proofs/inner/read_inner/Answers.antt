@@ -1,4 +1,3 @@
-use Rattle.std.proofs.Common.{◌∙◌, sym}
 use Rattle.tree_format.proofs.Names.{spelled_whole, only_names, joined_string, whole_names}
 use Rattle.tree_format.proofs.inner.read_inner.Goals as goal
 

@@ -1,6 +1,6 @@
-use Rattle.std.proofs.Common.{◌≡◌, true, sym, ap, ◌∙◌}
+use Rattle.std.proofs.Common.{ap, ◌∙◌}
 use Rattle.std.specs.List.{list_all}
-use Rattle.guarded_update.specs.Fitting.{guard_is_short, action_is_short}
+use Rattle.guarded_update.specs.Fitting.{action_is_short}
 use Rattle.guarded_update.proofs.Sizes.{guards_are_short, actions_are_short, short_parts}
 use Rattle.guarded_update.proofs.clauses.ClauseSpelled.write.Goals as goal
 

@@ -1,4 +1,4 @@
-use Rattle.std.proofs.Common.{◌∙◌, ◌<◌, sym, ap, subst, length, slice_get, Some, take, drop, ◌*◌, arith}
+use Rattle.std.proofs.Common.{◌∙◌, ◌<◌, sym, ap, length, slice_get, Some, take, drop, ◌*◌, arith}
 use Rattle.tree_format.proofs.Names.{length-names_in, name_at}
 use Rattle.tree_format.proofs.inner.Inner.name.Goals as goal
 
