@@ -1,6 +1,6 @@
 -- What each answer says leaves no other answer in its place.
 use Rattle.std.proofs.Common.{◌≡◌, ℕ, List, Option, None, Some, IfSome, inl, inr, arith, refl, sym, ◌∙◌}
-use Rattle.script_model.specs.Script.{Event}
+use Rattle.narrow_model.specs.Script.{Event}
 use Rattle.pond.specs.declared.status.Status.{Status}
 use Rattle.pond.specs.declared.status.Status.TheVariants.{Done, Usage, Refused, ReadFault, WriteFault, Memory, TooLarge}
 use Rattle.pond.specs.Exactly.{UsageWhere, RefusedWhere, TooLargeWhere, CompleteWhere}

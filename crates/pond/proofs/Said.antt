@@ -1,7 +1,7 @@
 -- The answers of a run of a text, as answers of the program.
 use Rattle.std.proofs.Common.{◌≡◌, ◌++◌, ℕ, List, Option, None, Some, IfSome, sym, ◌∙◌, ap, subst, append-nil, inr}
 use Rattle.std.specs.Io.KnownBytes.{Consumes, IsAtEnd}
-use Rattle.script_model.specs.Script.{script_of}
+use Rattle.narrow_model.specs.Script.{script_of}
 use Rattle.pond.specs.declared.status.Status.{Status}
 use Rattle.pond.specs.declared.status.Status.TheVariants.{Done, Usage, Refused, ReadFault, WriteFault, Memory, TooLarge}
 use Rattle.pond.specs.Runs.{RunSays}

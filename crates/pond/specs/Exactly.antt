@@ -1,7 +1,7 @@
 -- The other direction of the table: which answers remain where the outside is as told.
 use Rattle.std.specs.Prelude.{◌≡◌, ◌<◌, ◌⊎◌, List, length, None, Some, IfSome}
-use Rattle.script_model.specs.Script.{Event, script_of}
-use Rattle.script_text.specs.declared.cause.Cause.TheVariants.{Verb}
+use Rattle.narrow_model.specs.Script.{Event, script_of}
+use Rattle.narrow_text.specs.declared.cause.Cause.TheVariants.{Verb}
 use Rattle.pond.specs.declared.status.Status.{Status}
 use Rattle.pond.specs.declared.status.Status.TheVariants.{Done, Usage, Refused, ReadFault, Memory, TooLarge}
 use Rattle.pond.specs.Table.{Outside, Says, IsRun, Fails, IsSmall, most_bytes}

@@ -1,8 +1,8 @@
 -- What the answer of a run of a text says of the sink, the words and the source being read.
 use Rattle.std.specs.Prelude.{◌≡◌, List, ℕ, None}
-use Rattle.script_model.specs.Script.{script_of}
-use Rattle.script_text.specs.declared.cause.Cause.{Cause}
-use Rattle.script_text.specs.declared.cause.Cause.TheVariants.{Verb}
+use Rattle.narrow_model.specs.Script.{script_of}
+use Rattle.narrow_text.specs.declared.cause.Cause.{Cause}
+use Rattle.narrow_text.specs.declared.cause.Cause.TheVariants.{Verb}
 use Rattle.pond.specs.declared.status.Status.{Status}
 use Rattle.pond.specs.declared.status.Status.TheVariants.{Done, Usage, Refused, ReadFault, WriteFault, Memory, TooLarge}
 use Rattle.pond.specs.Table.{Seen, IsUnused, IsSound, Fails, TakesText, TakesPrefix, TakesAtMost}

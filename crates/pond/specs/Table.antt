@@ -3,10 +3,10 @@ use Rattle.std.specs.Prelude.{◌≡◌, ◌≤◌, ◌<◌, ◌⊎◌, ℕ, Lis
 use Rattle.std.specs.Str.{bytes_eq}
 use Rattle.std.specs.Io.KnownBytes.{Appends, IsAtEnd}
 use Rattle.pond_base.specs.Outside.{Rose, AppendsPrefix}
-use Rattle.script_model.specs.Script.{Event, script_of}
+use Rattle.narrow_model.specs.Script.{Event, script_of}
 use Rattle.text_model.specs.Text.{text_of}
-use Rattle.script_text.specs.declared.cause.Cause.{Cause}
-use Rattle.script_text.specs.declared.cause.Cause.TheVariants.{Verb}
+use Rattle.narrow_text.specs.declared.cause.Cause.{Cause}
+use Rattle.narrow_text.specs.declared.cause.Cause.TheVariants.{Verb}
 use Rattle.pond.specs.declared.status.Status.{Status}
 use Rattle.pond.specs.declared.status.Status.TheVariants.{Done, Usage, Refused, ReadFault, WriteFault, Memory, TooLarge}
 

@@ -7,10 +7,10 @@ ghost use Rattle.pond.specs.Table as table;
 
 use crate::status::Status;
 use block_names::Sha1Hash;
+use narrow_text::{ParseFault, parse};
 use pond_base::limits::MOST_SCRIPT_BYTES;
 use pond_base::{Sink, Source, Unread, read_whole};
 use script_run::{End, run};
-use script_text::{ParseFault, parse};
 use std::alloc::Global;
 use std::thread::Threads;
 

@@ -8,11 +8,11 @@ use Rattle.std.proofs.lemmas.Grind.{common_steps, fold-append}
 use Rattle.std.proofs.lemmas.List.{map-append, length-map, drop-take, take-append-le}
 use Rattle.pond_base.specs.Outside.{AppendsPrefix}
 use Rattle.object_fold.specs.Plain.{ObjectMap, object_in}
-use Rattle.script_model.specs.Script.{Event, Settle, Read}
+use Rattle.narrow_model.specs.Script.{Event, Settle, Read}
 use Rattle.text_model.specs.Objects.{Object, after_append, object_after, version_zero}
 use Rattle.text_model.specs.Text.{submits, is_settle, settles, settled, line_text, text_after, text_of, read_text}
-use Rattle.script_text.specs.Lines.{event_of}
-use Rattle.script_text.specs.declared.script.Line.{Line}
+use Rattle.narrow_text.specs.Lines.{event_of}
+use Rattle.narrow_text.specs.declared.script.Line.{Line}
 use Rattle.script_run.proofs.Settling.{submits-append, length-submits, versions_grow, events_more}
 
 -- before line i of these lines, where the last settle stood at since or nowhere

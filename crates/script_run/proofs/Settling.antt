@@ -4,11 +4,11 @@ use Rattle.std.specs.List.{fold}
 use Rattle.std.specs.Str.{bytes_eq}
 use Rattle.std.proofs.lemmas.Grind.{common_steps, fold-append}
 use Rattle.std.proofs.lemmas.List.{map-append}
-use Rattle.script_model.specs.Script.{Event, Submit, Settle, Read}
+use Rattle.narrow_model.specs.Script.{Event, Submit, Settle, Read}
 use Rattle.text_model.specs.Objects.{Append, Object, after_append, most_bytes}
 use Rattle.text_model.specs.Text.{submits, append_of}
-use Rattle.script_text.specs.Lines.{event_of}
-use Rattle.script_text.specs.declared.script.Line.{Line}
+use Rattle.narrow_text.specs.Lines.{event_of}
+use Rattle.narrow_text.specs.declared.script.Line.{Line}
 
 pub submits-append : (xs ys : List Event) → submits (xs ++ ys) ≡ submits xs ++ submits ys
 submits-append [] ys = refl

@@ -6,13 +6,13 @@ ghost use Rattle.pond_base.specs.Outside.{Rose, AppendsPrefix};
 ghost use Rattle.object_fold.specs.Plain.{object_in};
 ghost use Rattle.text_model.specs.Objects.{after_append};
 ghost use Rattle.text_model.specs.Text.{text_of, submits};
-ghost use Rattle.script_text.specs.Lines.{event_of};
+ghost use Rattle.narrow_text.specs.Lines.{event_of};
 
 use crate::printing::read_text;
 use block_names::Hash160;
+use narrow_text::{Line, Script};
 use object_fold::PlainObjects;
 use pond_base::{OutOfMemory, Sink, write_whole};
-use script_text::{Line, Script};
 use std::alloc::Global;
 use std::thread::Threads;
 

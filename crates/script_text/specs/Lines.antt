@@ -1,10 +1,23 @@
--- The event that a line says.
-use Rattle.script_model.specs.Script.{Event}
-use Rattle.script_model.specs.Script as model
-use Rattle.script_text.specs.declared.script.Line.{Line}
-use Rattle.script_text.specs.declared.script.Line.TheVariants.{Submit, Settle, Read}
+-- Lines behind lines.
+use Rattle.std.specs.Prelude.{◌≡◌, ℕ, List, ◌++◌, ◌∷◌, map, true, Result, Ok}
+use Rattle.script_terms.specs.declared.cause.Cause.{Cause}
+use Rattle.script_terms.specs.declared.item.Item.{Item}
+use Rattle.script_terms.specs.declared.item.Placed.{Placed}
+use Rattle.script_grammar.specs.Known.{known, rank}
+use Rattle.script_grammar.specs.Results.{◌>>=◌}
+use Rattle.script_grammar.specs.Script.{items}
+use Rattle.script_grammar.specs.Steps.{spoken, counted, in_order, in_range, in_size}
 
-abbrev pub event_of : Line → Event
-event_of (Submit label content) = model.Submit label content
-event_of Settle = model.Settle
-event_of (Read label) = model.Read label
+-- the lines with what the words of one more say
+abbrev pub said_after : ℕ → List Placed → List (List ℕ) → Result (List Placed) Cause
+said_after number earlier words = spoken (items earlier) words >>= λ found. Ok (map (λ item. record { line = number; item = item }) found ++ earlier)
+
+-- the lines with an item, where that passes no limit
+abbrev pub placed_after : ℕ → List Placed → Item → Result (List Placed) Cause
+placed_after number earlier item = counted (items earlier) item >>= λ same. Ok (record { line = number; item = same } ∷ earlier)
+
+-- an item that passed the steps before the last
+pub record Fits (earlier : List Item) (item : Item) : Type 0 where
+  pub order : in_order (known earlier).last (rank item) ≡ true
+  pub range : in_range (known earlier) item ≡ true
+  pub size : in_size item ≡ true

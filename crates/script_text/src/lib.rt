@@ -1,17 +1,22 @@
 //! The reading of scripts.
 //!
-//! [`parse`] reads the bytes of a script into its lines, and refuses every other text with a line and
-//! a [`Cause`]. It stands on the definition of a script in `script_model`. The crates above use that a
-//! [`Script`] is the value that this definition gives its text.
+//! [`parse`] reads the bytes of a text into the [`Script`] that they are, and refuses every other text at
+//! its first line with a fault, with the one [`Cause`] that holds. It stands on the definitions of
+//! script_grammar; script_words reads words, script_update updates, and script_checks keeps what earlier
+//! lines declared and sent. The forms of each verb have a function each. The crates above use that a
+//! script is the value that the definition gives its text, and that a refusal is the one that it gives.
 #![tactic(auto)]
 
-mod cause;
-mod lines;
+mod declarations;
+mod events;
+mod fault;
 mod parsing;
-mod script;
+mod state;
+mod submits;
 #[cfg(test)]
 mod tests;
+mod verbs;
 
-pub use cause::{Cause, ParseFault};
+pub use fault::ParseFault;
 pub use parsing::parse;
-pub use script::{Line, Script};
+pub use script_terms::{Cause, Line, LineClause, LineGuard, Script};

@@ -3,7 +3,7 @@ use Rattle.std.specs.Prelude.{ℕ, Bool, true, false, List, [], ◌∷◌, ◌++
 use Rattle.std.specs.Fmt.{decimal}
 use Rattle.std.specs.List.{flat_map, list_any}
 use Rattle.hex.specs.Hex.{encode_lower}
-use Rattle.script_model.specs.Script.{Event, Submit, Settle, Read}
+use Rattle.narrow_model.specs.Script.{Event, Submit, Settle, Read}
 use Rattle.text_model.specs.Objects.{Append, Object, object_after}
 
 -- the append that an event submits

@@ -2,7 +2,7 @@
 use Rattle.std.specs.Prelude.{◌≡◌, ℕ, List, [], ◌∷◌, ◌++◌, Some}
 use Rattle.std.specs.List.{flat_map}
 use Rattle.std.specs.Option.{option_map}
-use Rattle.script_model.specs.Script.{script_of}
+use Rattle.narrow_model.specs.Script.{script_of}
 use Rattle.text_model.specs.Text.{text_of}
 
 -- lines with a line feed behind each

@@ -1,5 +1,5 @@
 use Rattle.std.proofs.Common.{arith}
-use Rattle.script_model.proofs.Sizes.{script_few}
+use Rattle.narrow_model.proofs.Sizes.{script_few}
 use Rattle.pond.proofs.top.run_text.Goals as goal
 
 pub run-requires : goal.run-requires

@@ -3,8 +3,8 @@ use Rattle.std.specs.Io.KnownBytes.{Appends}
 use Rattle.std.proofs.KnownBytes.{Appends-trans}
 use Rattle.pond_base.specs.Outside.{AppendsPrefix}
 use Rattle.text_model.specs.Text.{settles, line_text}
-use Rattle.script_text.specs.Lines.{event_of}
-use Rattle.script_text.specs.declared.script.Line.{Line}
+use Rattle.narrow_text.specs.Lines.{event_of}
+use Rattle.narrow_text.specs.declared.script.Line.{Line}
 use Rattle.script_run.proofs.RunLemmas.{stands_quiet, stands_settle, front_written, front_in_line, text_more, text_quiet, read_piece}
 use Rattle.script_run.proofs.running.run.Goals as goal
 use Rattle.script_run.proofs.running.run.Goals.{in-Submit, in-Settle+in-Ok, in-Read+in-Ok-read_text+in-Ok-write_whole}

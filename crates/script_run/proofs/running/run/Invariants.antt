@@ -1,7 +1,7 @@
 use Rattle.std.proofs.Common.{◌≡◌, map, take, []}
 use Rattle.std.specs.Io.KnownBytes.{Appends}
 use Rattle.text_model.specs.Text.{text_after}
-use Rattle.script_text.specs.Lines.{event_of}
+use Rattle.narrow_text.specs.Lines.{event_of}
 use Rattle.script_run.proofs.RunLemmas.{Stands}
 use Rattle.script_run.proofs.running.run.Given as goal
 

@@ -3,7 +3,7 @@ use Rattle.std.specs.List.{fold}
 use Rattle.object_fold.specs.Plain.{object_in}
 use Rattle.text_model.specs.Objects.{Object, after_append}
 use Rattle.text_model.specs.Text.{submits}
-use Rattle.script_text.specs.Lines.{event_of}
+use Rattle.narrow_text.specs.Lines.{event_of}
 use Rattle.script_run.proofs.Settling.{events_more, settle_more, versions_grow, length-submits}
 use Rattle.script_run.proofs.running.settle.Goals as goal
 

@@ -1,29 +1,23 @@
-use Rattle.std.proofs.Common.{None, Some, map, refl, sym, ◌∙◌, ap, cond, Bool}
-use Rattle.script_model.specs.Script.{events_of, lines_of}
-use Rattle.script_text.specs.Lines.{event_of}
-use Rattle.script_text.proofs.LineLemmas.{script_by}
+use Rattle.std.proofs.Common.{◌<◌, length, arith, sym, ◌∙◌}
+use Rattle.std.proofs.lemmas.Grind.{common_steps}
+use Rattle.script_grammar.specs.Words.{lines_of}
+use Rattle.script_grammar.specs.Script.{script_of}
+use Rattle.script_text.proofs.TextLines.{first_line, goes_on, stops, shorter}
 use Rattle.script_text.proofs.parsing.parse.Goals as goal
 
-pub returns-in-Ok-Some-clause-ok : goal.returns-in-Ok-Some-clause-ok
-returns-in-Ok-Some-clause-ok c =
-    script_by c.args.text.now _ _ _ _ c.split_line.ensures.line c.split_line.ensures.after c.split_line-2.ensures.line c.split_line-2.ensures.after
-    ∙ ap (λ (b : Bool). cond b (events_of (lines_of c.split_line-2.result.1.now)) None) (sym c.if-not-has_heads.ensures)
-    ∙ sym (rw c.in-Ok-Some.field-0-is at c.in-Ok-Some.ensures)
-    ∙ ap Some (sym (c.new.ensures ∙ ap (map event_of) c.from_vec.ensures))
+pub returns-in-Err : goal.returns-in-Err
+returns-in-Err c =
+    let some : 0 < length c.loop-rest.rest.now = grind (arith, common_steps, c.loop-rest-test.ensures) in
+    rw c.at.ensures
+    (stops c.loop-rest.number c.loop-rest.state c.split_line.result.0.now (lines_of c.split_line.result.1.now) (script_of c.args.text.now) c.in-Err.fault c.in-Err.ensures
+    (sym (first_line c.loop-rest.number c.loop-rest.state c.loop-rest.rest.now _ c.split_line.result.1.now some c.split_line.ensures.line c.split_line.ensures.after) ∙ c.loop-rest.invariant.same))
 
-pub returns-in-Ok-None-clause-refused : goal.returns-in-Ok-None-clause-refused
-returns-in-Ok-None-clause-refused c = (
-  script_by c.args.text.now _ _ _ _ c.split_line.ensures.line c.split_line.ensures.after c.split_line-2.ensures.line c.split_line-2.ensures.after
-      ∙ ap (λ (b : Bool). cond b (events_of (lines_of c.split_line-2.result.1.now)) None) (sym c.if-not-has_heads.ensures)
-      ∙ sym (rw c.in-Ok-None.field-0-is at c.in-Ok-None.ensures),
-  refl,
-  refl,
-)
-
-pub returns-then-not-has_heads-clause-refused : goal.returns-then-not-has_heads-clause-refused
-returns-then-not-has_heads-clause-refused c = (
-  script_by c.args.text.now _ _ _ _ c.split_line.ensures.line c.split_line.ensures.after c.split_line-2.ensures.line c.split_line-2.ensures.after
-      ∙ ap (λ (b : Bool). cond b (events_of (lines_of c.split_line-2.result.1.now)) None) (sym c.if-not-has_heads.ensures),
-  refl,
-  refl,
-)
+pub loop-rest-preserved : goal.loop-rest-preserved
+loop-rest-preserved c =
+    let some : 0 < length c.loop-rest.rest.now = grind (arith, common_steps, c.loop-rest-test.ensures) in
+    record {
+      small = omega (arith, c.loop-rest.invariant.small, shorter c.loop-rest.rest.now c.split_line.result.1.now some c.split_line.ensures.after);
+      same =
+          goes_on c.loop-rest.number c.loop-rest.state c.in-Ok.next c.split_line.result.0.now (lines_of c.split_line.result.1.now) (script_of c.args.text.now) c.in-Ok.ensures
+          (sym (first_line c.loop-rest.number c.loop-rest.state c.loop-rest.rest.now _ c.split_line.result.1.now some c.split_line.ensures.line c.split_line.ensures.after) ∙ c.loop-rest.invariant.same);
+    }

@@ -1,0 +1,10 @@
+pub mod Results
+pub mod Words
+pub mod Classes
+pub mod Update
+pub mod Forms
+pub mod Known
+pub mod Load
+pub mod Steps
+pub mod Script
+pub mod Worked

@@ -1,0 +1,14 @@
+// The first word of a line.
+
+/// The first word of a line that is not skipped.
+#[derive(Clone, Copy, Debug, PartialEq, Eq)]
+pub enum Verb {
+    Pond,
+    Ring,
+    Block,
+    Clients,
+    Submit,
+    Settle,
+    Read,
+    Show,
+}

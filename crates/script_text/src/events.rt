@@ -1,0 +1,85 @@
+// The forms of events but submits.
+ghost use Rattle.std.specs.Prelude.{◌≡◌, ◌∷◌, []};
+ghost use Rattle.script_terms.specs.declared.verb.Verb.TheVariants as verbs;
+ghost use Rattle.script_grammar.specs.Forms.{said};
+ghost use Rattle.script_grammar.specs.Known as spec;
+ghost use Rattle.script_grammar.specs.Results.{Gives};
+ghost use Rattle.script_checks.specs.Next.{checked};
+ghost use Rattle.script_text.specs.Texts.{texts};
+
+use pond_base::Version;
+use script_checks::Known;
+use script_terms::{Item, Line, LineFault, refused};
+use script_words::{label, number};
+
+/// `settle`
+pub(crate) fn settle(words: &[&[u8]]) -> Result<Item, LineFault>
+    ensures { (k : spec.Known) → Gives (λ x. x) result (checked k (said verbs.Settle (texts words.now))) }
+{
+    if words.is_empty() {
+        Ok(Item::Event(Line::Settle))
+    } else {
+        Err(refused::WORDS)
+    }
+}
+
+/// `read C LABEL`
+pub(crate) fn read(known: &Known, words: &[&[u8]]) -> Result<Item, LineFault>
+    ensures { Gives (λ x. x) result (checked known.now (said verbs.Read (texts words.now))) }
+{
+    let [client, object] = words else {
+        return Err(refused::WORDS);
+    };
+    let client = number(client)?;
+    let label = label(object)?;
+    let client = known.client(client)?;
+    Ok(Item::Event(Line::Read { client, label }))
+}
+
+/// `show member I`, `show version I LABEL V`
+pub(crate) fn show(known: &Known, words: &[&[u8]]) -> Result<Item, LineFault>
+    ensures { Gives (λ x. x) result (checked known.now (said verbs.Show (texts words.now))) }
+{
+    match words {
+        [what, member] => show_member(known, what, member),
+        [what, member, object, version] => show_version(known, what, member, object, version),
+        _ => Err(refused::WORDS),
+    }
+}
+
+fn show_member(known: &Known, what: &[u8], member: &[u8]) -> Result<Item, LineFault>
+    ensures { Gives (λ x. x) result (checked known.now (said verbs.Show (what.now ∷ member.now ∷ []))) }
+{
+    if what != b"member".as_slice() {
+        return Err(refused::WORDS);
+    }
+    let member = number(member)?;
+    let member = known.member(member)?;
+    Ok(Item::Event(Line::ShowMember { member }))
+}
+
+fn show_version(
+    known: &Known,
+    what: &[u8],
+    member: &[u8],
+    object: &[u8],
+    version: &[u8],
+) -> Result<Item, LineFault>
+    ensures { Gives (λ x. x) result (checked known.now (said verbs.Show (what.now ∷ member.now ∷ object.now ∷ version.now ∷ []))) }
+{
+    if what != b"version".as_slice() {
+        return Err(refused::WORDS);
+    }
+    let member = number(member)?;
+    let label = label(object)?;
+    let version = number(version)?;
+    let member = known.member(member)?;
+    if version < 1 {
+        return Err(refused::RANGE);
+    }
+    Ok(Item::Event(Line::ShowVersion {
+        member,
+        label,
+        version: Version(version),
+    }))
+}
