@@ -6,7 +6,7 @@ use Rattle.cauchy_code.proofs.Steps.{map_read, wide_at, away_at, lower_push, low
 use Rattle.cauchy_code.proofs.table.lower_rows.Goals as goal
 
 pub loop-k-init : goal.loop-k-init
-loop-k-init c = ap (map (λ w. w.items)) c.new-rows.ensures.items ∙ sym (lower_none c.args.x0 c.args.y0 c.args.xs.now c.args.ys.now (map (λ w. w.items) c.args.smaller.now))
+loop-k-init c = ap (map (λ w. w.items)) c.in_ok-rows.ensures.items ∙ sym (lower_none c.args.x0 c.args.y0 c.args.xs.now c.args.ys.now (map (λ w. w.items) c.args.smaller.now))
 
 pub div-back-requires : goal.div-back-requires
 div-back-requires c = xor_differ (get_or c.args.ys.now c.loop-k.k 0) c.args.y0 (λ e. away_at c.args.y0 c.args.ys.now c.loop-k.k c.requires.columns_differ (omega arith) (sym e))
