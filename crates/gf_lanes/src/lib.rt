@@ -53,6 +53,10 @@ pub fn add_row(acc: &mut [u8], c: u8, row: &[u8])
         add_copy(acc, row);
         return;
     }
+    if row.len() < LANES {
+        add_row_plain(acc, c, row);
+        return;
+    }
     let low = products(c);
     let high = products(times_sixteen(c));
     let blocks = row.len() / LANES;
