@@ -16,10 +16,10 @@ use std::rt::Runtime;
 use std::time::Instant;
 
 /// How often each is done in a round.
-const TIMES: u32 = 400;
+const TIMES: u32 = 100;
 
 /// How many rounds there are. The fastest counts.
-const ROUNDS: u32 = 20;
+const ROUNDS: u32 = 100;
 
 /// Adds a row again and again, by lanes.
 fn add_again(acc: &mut [u8], row: &[u8])
@@ -85,8 +85,8 @@ fn rebuild_kept_again(
 
 /// Megabytes in a second, where `size` bytes were done in each time of a round.
 fn megabytes(start: &Instant, rt: &impl Runtime, size: usize) -> io::Result<u64> {
-    let micros = u64::try_from(start.elapsed(rt)?.as_micros()).unwrap_or(u64::MAX);
-    Ok((size as u64).saturating_mul(TIMES as u64) / micros.max(1))
+    let nanos = u64::try_from(start.elapsed(rt)?.as_nanos()).unwrap_or(u64::MAX);
+    Ok((size as u64).saturating_mul(1000 * TIMES as u64) / nanos.max(1))
 }
 
 /// A row of its own.
