@@ -125,3 +125,50 @@ pub fn sum_four(
         fourth[j] = sum_at(fourth_factors, parts, part_len, j);
     }
 }
+
+#[cfg(test)]
+mod tests {
+    use crate::{ProductTable, add_row_plain, sum_four};
+    use std::alloc::{AllocError, Global};
+    use std::test::Fail;
+
+    /// The plain sum of three parts.
+    fn plain(alloc: Global, factors: &[u8], parts: &[u8], len: usize) -> Result<Vec<u8>, AllocError>
+        requires three { length factors.now ≡ 3 }
+        requires whole { length parts.now ≡ 3 * len }
+    {
+        let mut sum = vec![in alloc; 0; len]?;
+        add_row_plain(&mut sum, factors[0], &parts[..len]);
+        add_row_plain(&mut sum, factors[1], &parts[len..2 * len]);
+        add_row_plain(&mut sum, factors[2], &parts[2 * len..]);
+        Ok(sum)
+    }
+
+    #[test]
+    fn four_rows_are_plain_sums(rt: HostRuntime) -> Result<(), Fail> {
+        let alloc = rt.alloc();
+        let table = ProductTable::new(alloc)?;
+        let mut bytes: Vec<u8> = Vec::new(alloc);
+        for j in 0..=209u8 {
+            bytes.push(j.wrapping_mul(89) ^ 0x5a)?;
+        }
+        for len in 0..71usize {
+            let mut a = vec![in alloc; 0xc3; len]?;
+            let mut b = vec![in alloc; 0xc3; len]?;
+            let mut c = vec![in alloc; 0xc3; len]?;
+            let mut d = vec![in alloc; 0xc3; len]?;
+            if bytes.len() == 210 {
+                let parts = &bytes[..3 * len];
+                let (f, g, h, i) = ([2, 1, 0], [0x8e, 3, 0xff], [0, 0, 0], [0x80, 0x1d, 7]);
+                sum_four(
+                    &table, &f, &g, &h, &i, parts, &mut a, &mut b, &mut c, &mut d,
+                );
+                assert_eq!(rt; a.as_slice(), plain(alloc, &f, parts, len)?.as_slice());
+                assert_eq!(rt; b.as_slice(), plain(alloc, &g, parts, len)?.as_slice());
+                assert_eq!(rt; c.as_slice(), plain(alloc, &h, parts, len)?.as_slice());
+                assert_eq!(rt; d.as_slice(), plain(alloc, &i, parts, len)?.as_slice());
+            }
+        }
+        Ok(())
+    }
+}
