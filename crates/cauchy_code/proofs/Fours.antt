@@ -1,14 +1,14 @@
 -- Sums of parts, one or four at a time, as the program keeps them.
-use Rattle.std.proofs.Common.{◌≡◌, ℕ, zero, suc, ◌+◌, ◌-◌, ◌*◌, ◌<◌, ◌≤◌, Bool, true, false, ◌&&◌, ltb, List, [], ◌∷◌, ◌++◌, take, map, replicate, length, get_or, refl, sym, ap, subst, ◌∙◌, arith, Vec, Global}
-use Rattle.std.specs.List.{range_with_len, concat}
+use Rattle.std.proofs.Common.{◌≡◌, ℕ, zero, suc, ◌+◌, ◌*◌, ◌<◌, ◌≤◌, Bool, true, false, ◌&&◌, ltb, List, [], ◌∷◌, ◌++◌, take, map, replicate, length, get_or, refl, sym, ap, ◌∙◌, arith, Vec, Global}
+use Rattle.std.specs.List.{range_with_len}
 use Rattle.std.proofs.lemmas.List.{length-map, take_all}
 use Rattle.std.proofs.lemmas.List.FromFn.{fill_by_all}
 use Rattle.std.proofs.lemmas.Bool.{ltb-false, le-ltb}
 use Rattle.gf_lanes.specs.Sums.{part_sum}
-use Rattle.cauchy_code.specs.Code.{Parameters, is_part, dot, cauchy_row, row_byte, row, column, part_length}
+use Rattle.cauchy_code.specs.Code.{Parameters, is_part, dot, cauchy_row, row, column, part_length}
 use Rattle.cauchy_code.specs.Table.{IsWide, given_part, given_parts}
 use Rattle.cauchy_code.proofs.Columns.{sum_to_all}
-use Rattle.cauchy_code.proofs.Steps.{map_read, wide_at, whole_front, cauchy_length}
+use Rattle.cauchy_code.proofs.Steps.{map_read, wide_at, whole_front}
 use Rattle.cauchy_code.proofs.Blocks.{concat_step}
 use Rattle.cauchy_code.proofs.AnyRows.{sum_byte}
 

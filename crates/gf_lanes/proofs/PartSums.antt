@@ -1,5 +1,5 @@
 -- Sums of parts, as a loop makes them.
-use Rattle.std.proofs.Common.{◌≡◌, ℕ, zero, suc, ◌+◌, ◌*◌, ◌<◌, ◌≤◌, List, get_or, length, refl, sym, ap, ◌∙◌, arith, bit_xor}
+use Rattle.std.proofs.Common.{◌≡◌, ℕ, suc, ◌+◌, ◌*◌, List, get_or, refl, ap, ◌∙◌, arith, bit_xor}
 use Rattle.gf256.specs.Field.{product}
 use Rattle.gf_lanes.specs.Lanes.{HasLanes}
 use Rattle.gf_lanes.specs.Sums.{sum_to}

@@ -1,11 +1,11 @@
 -- Rows of a table of products.
-use Rattle.std.proofs.Common.{◌≡◌, ℕ, zero, suc, ◌+◌, ◌-◌, ◌*◌, ◌/◌, ◌%◌, ◌^◌, ◌<◌, ◌≤◌, List, replicate, get_or, length, refl, sym, ap, subst, ◌∙◌, arith, bit_xor, inl, inr}
+use Rattle.std.proofs.Common.{◌≡◌, ℕ, zero, suc, ◌+◌, ◌-◌, ◌*◌, ◌/◌, ◌%◌, ◌^◌, ◌<◌, ◌≤◌, List, replicate, get_or, refl, sym, ap, subst, ◌∙◌, arith, bit_xor, inl, inr}
 use Rattle.std.proofs.lemmas.Bool.{cases_lt, lt-ltb, le-ltb}
 use Rattle.std.specs.Int.Bits.{xor_shifted}
 use Rattle.gf256.specs.Field.{product}
 use Rattle.gf256.proofs.Laws.{product_sum_l, product_zero_l}
 use Rattle.gf_lanes.specs.ProductRows.{number, IsRow, AreRows, AreProducts}
-use Rattle.gf_lanes.proofs.Products.{by_bits, times_sixteen_is}
+use Rattle.gf_lanes.proofs.Products.{times_sixteen_is}
 
 pub number_low : (k : ℕ) → k < 16 → number k ≡ k
 unfolding number

@@ -14,10 +14,9 @@ mod lanes;
 mod product_table;
 
 pub use four::sum_four;
-pub use product_table::ProductTable;
-
 use gf256::mul;
 use lanes::{LANES, add_block, products, times_sixteen};
+pub use product_table::ProductTable;
 
 /// Adds `c` times `row` to `acc`, place by place: each byte of `acc` becomes its sum with the product
 /// of `c` and the byte of `row` at its place.

@@ -1,4 +1,4 @@
-//! ProductTable that are made once and then looked up.
+//! Products that are made once and then looked up.
 
 ghost use Rattle.std.specs.Prelude.{◌≡◌, ℕ, ◌+◌, ◌*◌, ◌^◌, ◌<◌, ◌≤◌, List, length, slice_index, bit_xor, IfOk};
 ghost use Rattle.gf_lanes.specs.ProductRows.{IsRow, AreRows, AreProducts};
@@ -70,8 +70,10 @@ fn fill(bytes: &mut [u8])
 }
 
 impl ProductTable {
-    /// The products of all bytes, 8,192 bytes of them.
-    pub fn new(alloc: Global) -> Result<Self, AllocError> {
+    /// The table, of 8,192 bytes.
+    pub fn new(alloc: Global) -> Result<Self, AllocError>
+        ensures { IfOk result (λ table. AreProducts table) }
+    {
         let mut bytes = vec![in alloc; 0; 8192]?;
         fill(&mut bytes);
         Ok(ProductTable { bytes })

@@ -1,4 +1,4 @@
-use Rattle.std.proofs.Common.{◌≡◌, ◌∙◌, ◌++◌, ap, []}
+use Rattle.std.proofs.Common.{◌∙◌, ◌++◌, ap}
 use Rattle.cauchy_code.proofs.Fours.{padded_at}
 use Rattle.cauchy_code.proofs.code.padded.Goals as goal
 

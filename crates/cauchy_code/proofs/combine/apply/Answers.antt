@@ -1,4 +1,4 @@
-use Rattle.std.proofs.Common.{◌≡◌, ◌+◌, ◌*◌, ◌<◌, ◌≤◌, ◌^◌, ◌∙◌, ap, sym, subst, map, length, arith, refl}
+use Rattle.std.proofs.Common.{◌+◌, ◌*◌, ◌<◌, ◌≤◌, ◌^◌, ◌∙◌, ap, sym, subst, map, length, arith, refl}
 use Rattle.std.specs.List.{range_with_len}
 use Rattle.cauchy_code.specs.Code.{dot, column}
 use Rattle.cauchy_code.specs.Table.{given_part}

@@ -1,4 +1,4 @@
-use Rattle.std.proofs.Common.{◌≡◌, ◌+◌, ◌*◌, get_or, bit_xor}
+use Rattle.std.proofs.Common.{◌+◌, ◌*◌, get_or, bit_xor}
 use Rattle.gf_lanes.proofs.PartSums.{sum_to_more, sum_to_none}
 use Rattle.gf_lanes.proofs.four.sum_at.Goals as goal
 

@@ -1,4 +1,4 @@
-use Rattle.std.proofs.Common.{◌≡◌, ◌+◌, ◌*◌, ◌<◌, ℕ, List, get_or, length}
+use Rattle.std.proofs.Common.{◌≡◌, ◌*◌, ◌<◌, ℕ, List, get_or, length}
 use Rattle.gf_lanes.specs.Sums.{part_sum}
 use Rattle.gf_lanes.proofs.four.sum_four.Given as goal
 

@@ -1,4 +1,4 @@
-use Rattle.std.proofs.Common.{◌≡◌, get_or, refl}
+use Rattle.std.proofs.Common.{refl}
 use Rattle.gf_lanes.proofs.PartSums.{lanes_none, lanes_more}
 use Rattle.gf_lanes.proofs.four.sums_at.Goals as goal
 

@@ -1,4 +1,4 @@
-use Rattle.std.proofs.Common.{◌≡◌, ◌+◌, ◌*◌, ℕ, List, get_or}
+use Rattle.std.proofs.Common.{◌+◌, ◌*◌, ℕ, List, get_or}
 use Rattle.gf_lanes.specs.Lanes.{HasLanes}
 use Rattle.gf_lanes.specs.Sums.{sum_to}
 use Rattle.gf_lanes.proofs.four.sums_at.Given as goal

@@ -1,4 +1,4 @@
-use Rattle.std.proofs.Common.{◌≡◌, ℕ, ◌+◌, ◌*◌, ◌/◌, ◌%◌, ◌<◌, get_or, ◌∙◌, sym, ap, arith, bit_xor, w8, Fits}
+use Rattle.std.proofs.Common.{◌/◌, ◌%◌, ◌<◌, get_or, ◌∙◌, arith, bit_xor, w8, Fits}
 use Rattle.std.proofs.lemmas.Simd.{Each1-get_or}
 use Rattle.gf_lanes.proofs.Products.{by_bits}
 use Rattle.gf_lanes.proofs.ProductRowLemmas.{low_at, high_at}

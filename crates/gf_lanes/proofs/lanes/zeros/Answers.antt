@@ -1,4 +1,4 @@
-use Rattle.std.proofs.Common.{refl, arith}
+use Rattle.std.proofs.Common.{refl}
 use Rattle.std.proofs.lemmas.Simd.{get_or-replicate}
 use Rattle.gf_lanes.proofs.lanes.zeros.Goals as goal
 

@@ -1,4 +1,4 @@
-use Rattle.std.proofs.Common.{◌≡◌, ℕ, zero, suc, ◌+◌, ◌*◌, ◌%◌, ◌^◌, ◌<◌, ◌≤◌, ◌∙◌, arith, subst, sym, ap, length, List, get_or, bit_xor}
+use Rattle.std.proofs.Common.{◌≡◌, ℕ, zero, suc, ◌+◌, ◌*◌, ◌%◌, ◌^◌, ◌<◌, ◌≤◌, ◌∙◌, arith, subst, length, List, get_or, bit_xor}
 use Rattle.gf_lanes.specs.ProductRows.{IsRow, AreRows}
 use Rattle.gf_lanes.proofs.ProductRowLemmas.{row_of_sum, rows_stay, rows_more}
 use Rattle.gf_lanes.proofs.product_table.double_rows.Invariants.{State}

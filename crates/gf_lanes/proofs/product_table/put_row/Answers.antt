@@ -1,4 +1,3 @@
-use Rattle.std.proofs.Common.{arith}
 use Rattle.gf_lanes.proofs.ProductRowLemmas.{row_of_halves}
 use Rattle.gf_lanes.proofs.product_table.put_row.Goals as goal
 

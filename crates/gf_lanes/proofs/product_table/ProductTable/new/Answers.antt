@@ -1,4 +1,4 @@
-use Rattle.std.proofs.Common.{◌∙◌, rules}
+use Rattle.std.proofs.Common.{◌∙◌}
 use Rattle.gf_lanes.proofs.ProductRowLemmas.{row_zero, zeros_at}
 use Rattle.gf_lanes.proofs.product_table.ProductTable.new.Goals as goal
 
