@@ -2,14 +2,16 @@
 
 ghost use Rattle.std.specs.Prelude.{◌≡◌, ℕ, Bool, true, false, ◌+◌, ◌*◌, ◌<◌, ◌≤◌, List, length, slice_index, IfOk, map, ◌↔◌, IfSome, IsSome};
 ghost use Rattle.std.specs.List.{range_with_len};
-ghost use Rattle.cauchy_code.specs.Code.{Parameters, is_part, row, part_length, Indexes, AllLong, AreRows, Bytes as AreBytes};
+ghost use Rattle.cauchy_code.specs.Code.{Parameters, is_part, cauchy_row, row, part_length, Indexes, AllLong, AreRows, Bytes as AreBytes};
 ghost use Rattle.cauchy_code.specs.Systematic.{table_of};
+ghost use Rattle.cauchy_code.specs.Table.{given_part};
 
-use crate::combine::{apply, combine, part};
+use crate::combine::{Four, apply, combine, combine_four, part};
 use crate::mixed::mixed;
 use crate::order::{given, indexes, joined, others};
 use crate::table::row_factors;
 use bytes::Bytes;
+use gf_lanes::ProductTable;
 use pond_base::OutOfMemory;
 use std::alloc::Global;
 use std::marker::Model;
@@ -34,12 +36,24 @@ impl Model for Code {
     ghost inverse = { λ code. record { m = code.m; n = code.n; systematic = code.systematic } };
 }
 
+/// A block, and zeros up to `size` bytes.
+fn padded(alloc: Global, block: &[u8], size: usize) -> Result<Vec<u8>, OutOfMemory>
+    requires { length block.now ≤ size }
+    ensures size { IfOk result (λ v. length v.items ≡ size) }
+    ensures bytes { IfOk result (λ v. (i : ℕ) → slice_index v.items i ≡ slice_index block.now i) }
+{
+    let mut bytes = Vec::with_capacity(alloc, size)?;
+    bytes.extend_from_slice(block)?;
+    bytes.resize(size, 0)?;
+    Ok(bytes)
+}
+
 /// `count` numbers from `start` on.
 fn numbers(alloc: Global, start: u8, count: u8) -> Result<Vec<u8>, OutOfMemory>
     requires { start + count < 256 }
     ensures { IfOk result (λ v. v.items ≡ range_with_len start count) }
 {
-    let mut numbers = Vec::new(alloc);
+    let mut numbers = Vec::with_capacity(alloc, count as usize)?;
     for k in 0..count {
         numbers.push(start + k)?;
     }
@@ -136,13 +150,58 @@ impl Code {
         combine(alloc, &factors, block, len)
     }
 
+    /// Four rows from `index` on, as sums of the parts.
+    fn four_rows(
+        &self,
+        alloc: Global,
+        products: &ProductTable,
+        index: u8,
+        points: &[u8],
+        parts: &[u8],
+        part_len: usize,
+    ) -> Result<Four, OutOfMemory>
+        requires there { index + 4 ≤ self.now.n }
+        requires points { points.now ≡ range_with_len self.now.n self.now.m }
+        requires whole { self.now.m * part_len ≤ length parts.now }
+        ensures first { IfOk result (λ r. r.first.items ≡ given_part self.now.m part_len parts.now (cauchy_row index points.now)) }
+        ensures second { IfOk result (λ r. r.second.items ≡ given_part self.now.m part_len parts.now (cauchy_row (index + 1) points.now)) }
+        ensures third { IfOk result (λ r. r.third.items ≡ given_part self.now.m part_len parts.now (cauchy_row (index + 2) points.now)) }
+        ensures fourth { IfOk result (λ r. r.fourth.items ≡ given_part self.now.m part_len parts.now (cauchy_row (index + 3) points.now)) }
+    {
+        let _n = self.n();
+        let first = row_factors(alloc, index, points)?;
+        let second = row_factors(alloc, index + 1, points)?;
+        let third = row_factors(alloc, index + 2, points)?;
+        let fourth = row_factors(alloc, index + 3, points)?;
+        combine_four(
+            alloc, products, &first, &second, &third, &fourth, parts, part_len,
+        )
+    }
+
     /// All rows of a block, in the order of their indexes.
     pub fn encode(&self, alloc: Global, block: &[u8]) -> Result<Vec<Vec<u8>>, OutOfMemory>
         ensures { IfOk result (λ v. map (λ r. r.items) v.items ≡ map (row self.now block.now) (range_with_len 0 self.now.n)) }
     {
-        let mut rows = Vec::new(alloc);
-        for i in 0..self.n() {
-            rows.push(self.row(alloc, i, block)?)?;
+        let m = self.m();
+        let n = self.n();
+        let len = self.part_len(block.len());
+        let products = ProductTable::new(alloc)?;
+        let points = numbers(alloc, n, m)?;
+        let parts = padded(alloc, block, m as usize * len)?;
+        let mut rows = Vec::with_capacity(alloc, n as usize)?;
+        let mut i = 0;
+        while i < n {
+            if n - i >= 4 && !self.is_part(i) {
+                let four = self.four_rows(alloc, &products, i, &points, &parts, len)?;
+                rows.push(four.first)?;
+                rows.push(four.second)?;
+                rows.push(four.third)?;
+                rows.push(four.fourth)?;
+                i += 4;
+            } else {
+                rows.push(self.row(alloc, i, block)?)?;
+                i += 1;
+            }
         }
         Ok(rows)
     }
@@ -165,6 +224,7 @@ impl Code {
     pub(crate) fn rebuild_with(
         &self,
         alloc: Global,
+        products: &ProductTable,
         size: usize,
         parts: &[(u8, Bytes)],
         table: &[Vec<u8>],
@@ -178,7 +238,7 @@ impl Code {
         let _m = self.m();
         let _n = self.n();
         let rows = joined(alloc, self, parts)?;
-        let mut block = apply(alloc, table, &rows, self.part_len(size))?;
+        let mut block = apply(alloc, products, table, &rows, self.part_len(size))?;
         block.truncate(size);
         Ok(block)
     }
@@ -199,6 +259,7 @@ impl Code {
     {
         let xs = indexes(alloc, parts)?;
         let table = self.table(alloc, &xs)?;
-        self.rebuild_with(alloc, size, parts, &table)
+        let products = ProductTable::new(alloc)?;
+        self.rebuild_with(alloc, &products, size, parts, &table)
     }
 }

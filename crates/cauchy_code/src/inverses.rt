@@ -8,6 +8,7 @@ ghost use Rattle.cauchy_code.specs.Kept.{Kept, staying};
 use crate::Code;
 use crate::order::indexes;
 use bytes::Bytes;
+use gf_lanes::ProductTable;
 use pond_base::OutOfMemory;
 use std::alloc::Global;
 use std::marker::Model;
@@ -28,6 +29,7 @@ pub struct Inverses {
     alloc: Global,
     code: Code,
     size: u32,
+    products: ProductTable,
     entries: Vec<Entry>,
 }
 
@@ -85,6 +87,7 @@ impl Inverses {
             alloc,
             code: *code,
             size,
+            products: ProductTable::new(alloc)?,
             entries: Vec::new(alloc),
         })
     }
@@ -118,10 +121,10 @@ impl Inverses {
         let alloc = self.alloc;
         let xs = indexes(alloc, parts)?;
         if let Some(table) = find(&self.entries, &code, &xs) {
-            return code.rebuild_with(alloc, size, parts, table);
+            return code.rebuild_with(alloc, &self.products, size, parts, table);
         }
         let table = code.table(alloc, &xs)?;
-        let block = code.rebuild_with(alloc, size, parts, &table)?;
+        let block = code.rebuild_with(alloc, &self.products, size, parts, &table)?;
         let entry = Entry { code, xs, table };
         keep(alloc, &mut self.entries, self.size as usize, entry)?;
         Ok(block)

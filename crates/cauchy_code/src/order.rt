@@ -13,7 +13,7 @@ use std::alloc::Global;
 pub fn indexes(alloc: Global, parts: &[(u8, Bytes)]) -> Result<Vec<u8>, OutOfMemory>
     ensures { IfOk result (λ v. v.items ≡ map (λ p. p.0) parts.now) }
 {
-    let mut indexes = Vec::new(alloc);
+    let mut indexes = Vec::with_capacity(alloc, parts.len())?;
     for part in parts {
         indexes.push(part.0)?;
     }

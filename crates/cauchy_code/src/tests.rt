@@ -138,6 +138,49 @@ fn systematic_code(rt: HostRuntime) -> Result<(), Fail> {
     Ok(())
 }
 
+/// The last byte of each row.
+fn lasts(alloc: Global, rows: &[Vec<u8>]) -> Result<Vec<u8>, OutOfMemory> {
+    let lasts = rows
+        .iter()
+        .map(|row| row.last().copied().unwrap_or(0))
+        .collect(alloc)?;
+    Ok(lasts)
+}
+
+#[test]
+fn rows_of_a_hundred_bytes(rt: HostRuntime) -> Result<(), Fail> {
+    let alloc = rt.alloc();
+    let mut block: Vec<u8> = Vec::new(alloc);
+    for j in 0..100u32 {
+        block.push(((j * j + 7 * j + 3) % 256) as u8)?;
+    }
+    for (code, first, last) in [
+        (
+            Code::new(3, 11),
+            [
+                0x4d, 0xa4, 0x02, 0x9e, 0x09, 0xb6, 0x30, 0x15, 0xca, 0x35, 0xf7,
+            ],
+            [
+                0xde, 0xe5, 0x80, 0x20, 0xf5, 0x19, 0x18, 0xfa, 0x46, 0xd7, 0x41,
+            ],
+        ),
+        (
+            Code::systematic(3, 11),
+            [
+                0x03, 0x75, 0xef, 0x9e, 0x09, 0xb6, 0x30, 0x15, 0xca, 0x35, 0xf7,
+            ],
+            [
+                0x2b, 0x61, 0x00, 0x20, 0xf5, 0x19, 0x18, 0xfa, 0x46, 0xd7, 0x41,
+            ],
+        ),
+    ] {
+        let rows = code.expect(&rt, "in range").encode(alloc, &block)?;
+        assert_eq!(rt; firsts(alloc, &rows)?.as_slice(), first.as_slice());
+        assert_eq!(rt; lasts(alloc, &rows)?.as_slice(), last.as_slice());
+    }
+    Ok(())
+}
+
 #[test]
 fn numbers_of_codes(rt: HostRuntime) -> Result<(), Fail> {
     for (m, n, is_code) in [

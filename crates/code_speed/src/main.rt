@@ -11,7 +11,7 @@ use pond_base::OutOfMemory;
 use rows::{rebuild, rows_from};
 use std::alloc::Global;
 use std::{env, io};
-use timing::measure;
+use timing::{measure, measure_rows};
 
 /// How many bytes the block has.
 const SIZE: usize = 8192;
@@ -44,6 +44,9 @@ fn main(rt: HostRuntime) -> io::Result<()> {
     let mut timed = false;
     for arg in env::args(&rt)?.skip(1) {
         timed = timed || arg.as_str() == "time";
+    }
+    if timed {
+        measure_rows(&rt, alloc, &block[..block.len().min(512)])?;
     }
     for (m, n) in [(16, 32), (4, 8)] {
         for code in [Code::new(m, n), Code::systematic(m, n)] {

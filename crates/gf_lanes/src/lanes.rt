@@ -4,6 +4,7 @@
 ghost use Rattle.std.specs.Prelude.{◌≡◌, ℕ, ◌+◌, ◌*◌, ◌/◌, ◌%◌, ◌<◌, ◌≤◌, length, slice_index, bit_and, bit_xor};
 ghost use Rattle.gf256.specs.Field.{product};
 ghost use Rattle.gf_lanes.specs.Lanes.{HasLanes, Repeats};
+ghost use Rattle.gf_lanes.specs.ProductRows.{AreProducts};
 
 use std::simd::prelude::*;
 
@@ -53,6 +54,7 @@ pub(crate) fn times_sixteen(a: u8) -> u8
 }
 
 /// `a` where the mask has 255, and 0 where it has 0.
+#[inline(always)]
 fn masked(a: u8, mask: &[u8; 32]) -> u8x32
     ensures { HasLanes result (λ k. bit_and a (slice_index mask.now k)) }
 {
@@ -60,6 +62,7 @@ fn masked(a: u8, mask: &[u8; 32]) -> u8x32
 }
 
 /// The products of `c` and each byte below 16, twice over.
+#[inline(always)]
 pub(crate) fn products(c: u8) -> u8x32
     ensures each { (k : ℕ) → k < 16 → slice_index result k ≡ product c k }
     ensures again { Repeats result }
@@ -73,7 +76,8 @@ pub(crate) fn products(c: u8) -> u8x32
 }
 
 /// The 32 bytes from `at` on.
-fn load(bytes: &[u8], at: usize) -> u8x32
+#[inline(always)]
+pub(crate) fn load(bytes: &[u8], at: usize) -> u8x32
     requires { at + 32 ≤ length bytes.now }
     ensures { HasLanes result (λ k. slice_index bytes.now (at + k)) }
 {
@@ -81,6 +85,7 @@ fn load(bytes: &[u8], at: usize) -> u8x32
 }
 
 /// What the table holds at the low four bits of each lane.
+#[inline(always)]
 fn by_low_bits(table: u8x32, v: u8x32) -> u8x32
     requires { Repeats table }
     ensures { HasLanes result (λ k. slice_index table (slice_index v k % 16)) }
@@ -89,6 +94,7 @@ fn by_low_bits(table: u8x32, v: u8x32) -> u8x32
 }
 
 /// What the table holds at the high four bits of each lane.
+#[inline(always)]
 fn by_high_bits(table: u8x32, v: u8x32) -> u8x32
     requires { Repeats table }
     ensures { HasLanes result (λ k. slice_index table (slice_index v k / 16)) }
@@ -97,14 +103,16 @@ fn by_high_bits(table: u8x32, v: u8x32) -> u8x32
 }
 
 /// The sum at each lane.
-fn sum(a: u8x32, b: u8x32) -> u8x32
+#[inline(always)]
+pub(crate) fn sum(a: u8x32, b: u8x32) -> u8x32
     ensures { HasLanes result (λ k. bit_xor (slice_index a k) (slice_index b k)) }
 {
     a ^ b
 }
 
 /// Writes the lanes from `at` on.
-fn store(out: &mut [u8], at: usize, v: u8x32)
+#[inline(always)]
+pub(crate) fn store(out: &mut [u8], at: usize, v: u8x32)
     requires { at + 32 ≤ length out.old }
     ensures inside { (k : ℕ) → k < 32 → slice_index out.new (at + k) ≡ slice_index v k }
     ensures before { (k : ℕ) → k < at → slice_index out.new k ≡ slice_index out.old k }
@@ -113,7 +121,53 @@ fn store(out: &mut [u8], at: usize, v: u8x32)
     v.copy_to_slice(&mut out[at..]);
 }
 
+/// Writes the first 16 lanes from `at` on.
+#[inline(always)]
+pub(crate) fn store_half(out: &mut [u8], at: usize, v: u8x32)
+    requires long { length v ≡ 32 }
+    requires room { at + 16 ≤ length out.old }
+    ensures inside { (k : ℕ) → k < 16 → slice_index out.new (at + k) ≡ slice_index v k }
+    ensures before { (k : ℕ) → k < at → slice_index out.new k ≡ slice_index out.old k }
+    ensures after { (k : ℕ) → at + 16 ≤ k → slice_index out.new k ≡ slice_index out.old k }
+{
+    v.extract::<0, 16>().copy_to_slice(&mut out[at..]);
+}
+
+/// The 16 bytes from `at` on, twice over.
+#[inline(always)]
+fn twice(bytes: &[u8], at: usize) -> u8x32
+    requires { at + 16 ≤ length bytes.now }
+    ensures { HasLanes result (λ k. slice_index bytes.now (at + k % 16)) }
+{
+    u8x16::from_slice(&bytes[at..]).swizzle([
+        0, 1, 2, 3, 4, 5, 6, 7, 8, 9, 10, 11, 12, 13, 14, 15, 0, 1, 2, 3, 4, 5, 6, 7, 8, 9, 10, 11,
+        12, 13, 14, 15,
+    ])
+}
+
+/// The product of `c` and each lane, looked up.
+#[inline(always)]
+pub(crate) fn times(table: &[u8], c: u8, v: u8x32) -> u8x32
+    requires long { length v ≡ 32 }
+    requires table { AreProducts table.now }
+    ensures { HasLanes result (λ k. product c (slice_index v k)) }
+{
+    let at = 32 * c as usize;
+    let low = by_low_bits(twice(table, at), v);
+    let high = by_high_bits(twice(table, at + 16), v);
+    sum(low, high)
+}
+
+/// No sum yet.
+#[inline(always)]
+pub(crate) fn zeros() -> u8x32
+    ensures { HasLanes result (λ _. 0) }
+{
+    u8x32::splat(0)
+}
+
 /// Adds to 32 bytes of `acc` what the tables hold at the low and the high bits of those of `row`.
+#[inline(always)]
 pub(crate) fn add_block(acc: &mut [u8], at: usize, low: u8x32, high: u8x32, row: &[u8])
     requires room { at + 32 ≤ length acc.old }
     requires same { length acc.old ≡ length row.now }

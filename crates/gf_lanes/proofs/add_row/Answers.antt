@@ -2,7 +2,7 @@ use Rattle.std.proofs.Common.{◌≡◌, ℕ, ◌+◌, ◌-◌, ◌*◌, ◌/◌
 use Rattle.std.specs.Int.Bits.{xor_zero_r}
 use Rattle.std.proofs.lemmas.Bool.{cases_lt}
 use Rattle.gf256.specs.Field.{product}
-use Rattle.gf256.proofs.Laws.{product_zero_l}
+use Rattle.gf256.proofs.Laws.{product_zero_l, product_one_l}
 use Rattle.gf_lanes.proofs.Products.{by_bits, times_sixteen_is}
 use Rattle.gf_lanes.proofs.add_row.Invariants.{State}
 use Rattle.gf_lanes.proofs.add_row.Goals as goal
@@ -10,6 +10,11 @@ use Rattle.gf_lanes.proofs.add_row.Goals as goal
 pub returns-then-c-eq0 : goal.returns-then-c-eq0
 returns-then-c-eq0 c = λ j l.
     sym (xor_zero_r (get_or c.args.acc.now j 0)) ∙ ap (bit_xor (get_or c.args.acc.now j 0)) (sym (ap (λ x. product x (get_or c.args.row.now j 0)) c.if-c-eq0.true ∙ product_zero_l (get_or c.args.row.now j 0)))
+
+pub returns-then-c-eq1 : goal.returns-then-c-eq1
+returns-then-c-eq1 c = λ j l.
+    c.add_copy.ensures j l
+    ∙ ap (bit_xor (get_or c.args.acc.now j 0)) (sym (ap (λ x. product x (get_or c.args.row.now j 0)) c.if-c-eq1.true ∙ product_one_l (get_or c.args.row.now j 0) (c.type_inv.row j).fits))
 
 -- a block more is summed
 step : (now before old row low high : List ℕ) (c d b : ℕ) → length now ≡ length before → State before old row c (32 * b)

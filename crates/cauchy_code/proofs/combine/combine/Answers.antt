@@ -3,7 +3,9 @@ use Rattle.gf256.specs.Field.{product}
 use Rattle.std.proofs.lemmas.Grind.{common_steps}
 use Rattle.std.proofs.lemmas.List.FromFn.{fill_by_all}
 use Rattle.cauchy_code.specs.Code.{dot, column}
-use Rattle.cauchy_code.proofs.Columns.{sum_to, sum_to_all, sum_to_more}
+use Rattle.gf_lanes.specs.Sums.{sum_to}
+use Rattle.gf_lanes.proofs.PartSums.{sum_to_more}
+use Rattle.cauchy_code.proofs.Columns.{sum_to_all}
 use Rattle.cauchy_code.proofs.combine.combine.Goals as goal
 
 pub loop-k-init : goal.loop-k-init

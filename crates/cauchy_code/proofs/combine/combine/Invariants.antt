@@ -1,5 +1,5 @@
 use Rattle.std.proofs.Common.{◌≡◌, ℕ, ◌<◌, ◌+◌, ◌*◌, get_or, length, List}
-use Rattle.cauchy_code.proofs.Columns.{sum_to}
+use Rattle.gf_lanes.specs.Sums.{sum_to}
 use Rattle.cauchy_code.proofs.combine.combine.Given as goal
 
 pub record Sums (sum factors bytes : List ℕ) (p k : ℕ) : Type 0 where

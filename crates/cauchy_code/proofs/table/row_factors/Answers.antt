@@ -6,7 +6,7 @@ use Rattle.cauchy_code.proofs.table.row_factors.Goals as goal
 
 pub loop-y-init : goal.loop-y-init
 unfolding cauchy_row
-loop-y-init c = c.new-factors.ensures.items
+loop-y-init c = c.in_ok-factors.ensures.items
 
 pub inv-requires : goal.inv-requires
 inv-requires c = xor_differ c.args.x (get_or c.args.ys.now c.loop-y.y-index 0) (away_at c.args.x c.args.ys.now c.loop-y.y-index c.requires c.loop-y-test.true)

@@ -1,6 +1,6 @@
 use Rattle.std.proofs.Common.{◌≤◌, ◌<◌, ap, ◌∙◌, sym, map, take, length, rules, arith}
 use Rattle.std.proofs.lemmas.List.{length-map}
-use Rattle.cauchy_code.proofs.AnyRows.{table_square, ordered_fits, rebuilt_as}
+use Rattle.cauchy_code.proofs.AnyRows.{table_square, ordered_fits, ordered_whole, rebuilt_as}
 use Rattle.cauchy_code.proofs.code.Code.rebuild_with.Goals as goal
 
 pub apply-requires-clause-square : goal.apply-requires-clause-square
@@ -18,6 +18,15 @@ apply-requires-clause-fits c =
     (length-map c.args.parts.now (λ q. q.0) ∙ c.requires.many) c.requires.indexes (sym (length-map c.args.table.now (λ w. w.items))) c.requires.right in
     ordered_fits c.args.self.now c.part_len.result (length c.args.table.now) c.args.size c.args.parts.now c.deref.result.now
     c.requires.many c.requires.long (c.deref.ensures.value ∙ c.in_ok-rows.ensures) square.0 c.part_len.ensures (search rules)
+
+pub apply-requires-clause-whole : goal.apply-requires-clause-whole
+apply-requires-clause-whole c =
+    let few : c.args.self.now.m ≤ 32 = omega (arith, c.m-m.ensures.value, c.m-m.ensures.few) in
+    let high : c.args.self.now.n ≤ 64 = omega (arith, c.n-n.ensures.value, c.n-n.ensures.few) in
+    let square = table_square c.args.self.now (map (λ q. q.0) c.args.parts.now) (map (λ w. w.items) c.args.table.now) (length c.args.table.now) few high
+    (length-map c.args.parts.now (λ q. q.0) ∙ c.requires.many) c.requires.indexes (sym (length-map c.args.table.now (λ w. w.items))) c.requires.right in
+    ordered_whole c.args.self.now c.part_len.result (length c.args.table.now) c.args.size c.args.parts.now c.deref.result.now
+    c.requires.many c.requires.long (c.deref.ensures.value ∙ c.in_ok-rows.ensures) square.0 c.part_len.ensures
 
 pub returns : goal.returns
 returns c = λ block bytes sized are.

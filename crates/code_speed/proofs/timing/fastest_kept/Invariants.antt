@@ -1,0 +1,13 @@
+use Rattle.std.proofs.Common.{◌≤◌, ◌+◌, ◌≡◌, ℕ, List, map}
+use Rattle.std.specs.List.{range_with_len}
+use Rattle.cauchy_code.specs.Code.{Parameters, part_length, AllLong}
+use Rattle.code_speed.proofs.timing.fastest_kept.Given as goal
+
+-- the parts are rows from an index on, as many as rebuild
+pub record Ready (code : Parameters) (from size : ℕ) (parts : List (ℕ × List ℕ)) : Type 0 where
+  pub there : from + code.m ≤ code.n
+  pub indexes : map (λ p. p.0) parts ≡ range_with_len from code.m
+  pub long : AllLong (part_length code.m size) (map (λ p. p.1) parts)
+
+abbrev pub invariant-loop : goal.invariant-loop
+invariant-loop g l = Ready l.inverses.code l.from l.size l.parts
