@@ -8,7 +8,7 @@ use crate::node::{Node, node_at};
 use bytes::Bytes;
 use pond_base::OutOfMemory;
 use std::alloc::Global;
-use tree_format::write_leaf;
+use tree_format::{read_leaf, write_leaf};
 
 /// The leaf strings of some bytes. A leaf that stood at its place before shares the bytes of the old one.
 pub(crate) fn leaf_strings(
@@ -49,8 +49,8 @@ fn leaf_at(alloc: Global, old: &[Node], place: usize, content: &[u8]) -> Result<
 fn is_leaf_of(string: &[u8], content: &[u8]) -> bool
     ensures { IsTrue result → string.now ≡ leaf_string content.now }
 {
-    match string {
-        [1, held @ ..] => held == content,
-        _ => false,
+    match read_leaf(string) {
+        Ok(held) => held == content,
+        Err(_) => false,
     }
 }

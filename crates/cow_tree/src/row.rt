@@ -1,5 +1,5 @@
 // One row of a version, against the old version's.
-ghost use Rattle.std.specs.Prelude.{◌≡◌, ◌+◌, ◌≤◌, List, ℕ, All, Contains, IfOk, IfErr, OnOk, slice_get};
+ghost use Rattle.std.specs.Prelude.{◌≡◌, ◌+◌, ◌≤◌, List, ℕ, All, Contains, Some, IfSome, IfNone, IfOk, IfErr, OnOk, slice_get};
 ghost use Rattle.std.specs.FinMap as map;
 ghost use Rattle.block_names.specs.Growth.{Grew, IsClashIn, IsFree, keep_all};
 ghost use Rattle.cow_tree.specs.Rows.{node, nodes, strings_in, IsKnown};
@@ -50,11 +50,22 @@ fn name_string<H: Hash160 + Drop>(
     ensures counted { book.new.namings ≤ book.old.namings + change string.now (slice_get (strings_in old.now) place) }
     ensures fault { IfErr result (IsClashIn H.naming book.new.held (λ s. s ≡ string.now)) }
 {
-    if let Some(before) = node_at(old, place) {
-        if before.string().as_slice() == string.as_slice() {
-            return Ok(before.share()?);
-        }
+    if let Some(before) = same_node(old, place, string) {
+        return Ok(before.share()?);
     }
     let name = book.name(string.as_slice())?;
     Ok(Node::new(string.clone()?, name))
+}
+
+// The old node at a place, where it has the string.
+fn same_node<'a>(old: &'a [Node], place: usize, string: &Bytes) -> Option<&'a Node>
+    ensures same { IfSome result (λ n. (slice_get old.now place ≡ Some n.now) × (n.now.string ≡ string.now)) }
+    ensures other { IfNone result (change string.now (slice_get (strings_in old.now) place) ≡ 1) }
+{
+    let before = node_at(old, place)?;
+    if before.string().as_slice() == string.as_slice() {
+        Some(before)
+    } else {
+        None
+    }
 }
