@@ -1,4 +1,5 @@
 pub mod Levels
+pub mod Making
 pub mod Names
 pub mod Standing
 pub mod Steps
