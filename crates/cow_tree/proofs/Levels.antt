@@ -15,7 +15,7 @@ use Rattle.cow_tree.specs.Rows.{nodes, names_in, strings_in, strings_from, IsKno
 use Rattle.cow_tree.specs.Namings.{changes, changes_in_rows}
 use Rattle.cow_tree.specs.Laws.{Keeps}
 use Rattle.cow_tree.proofs.Names.{known_still}
-use Rattle.cow_tree.proofs.Standing.{still}
+use Rattle.cow_tree.proofs.Standing.{still, strings_row}
 
 -- the rows are the first and those above it
 rows_step : (h : List ℕ → List ℕ) (n : ℕ) (row : List (List ℕ)) → 0 < n → rows_from h n row ≡ row ∷ rows_from h (n - 1) (row_above h row)
@@ -29,13 +29,9 @@ names_back : (h : List ℕ → List ℕ) (ss : List (List ℕ)) → names_in (no
 names_back h [] = refl
 names_back h (s ∷ ss) = ap (λ xs. h s ∷ xs) (names_back h ss)
 
-pub strings_back : (h : List ℕ → List ℕ) (ss : List (List ℕ)) → strings_in (nodes h ss) ≡ ss
-strings_back h [] = refl
-strings_back h (s ∷ ss) = ap (λ xs. s ∷ xs) (strings_back h ss)
-
 pub rows_back : (h : List ℕ → List ℕ) (rows : List (List (List ℕ))) → map strings_in (map (nodes h) rows) ≡ rows
 rows_back h [] = refl
-rows_back h (row ∷ rows) = ap (λ r. r ∷ map strings_in (map (nodes h) rows)) (strings_back h row) ∙ ap (λ rs. row ∷ rs) (rows_back h rows)
+rows_back h (row ∷ rows) = ap (λ r. r ∷ map strings_in (map (nodes h) rows)) (strings_row h row) ∙ ap (λ rs. row ∷ rs) (rows_back h rows)
 
 -- the inner strings over named nodes are the row above their strings
 pub above_is : (h : List ℕ → List ℕ) (row lent : List NodeView) (strings above given : List (List ℕ)) → row ≡ nodes h strings → lent ≡ row → above ≡ map inner_string (pieces 64 (names_in lent)) → given ≡ above

@@ -10,8 +10,10 @@ use Rattle.block_names.specs.declared.fault.NameFault.{NameFault}
 use Rattle.block_names.proofs.Grown.{grew_none, grew_then, clash_wider, keep_append, now_held}
 use Rattle.pond_base.specs.declared.numbers.Version.{Version}
 use Rattle.tree_format.specs.declared.root.Root.{Root}
-use Rattle.tree_format.specs.Strings.{root_string, height_over, no_name}
+use Rattle.tree_format.specs.Strings.{root_string, leaf_string, height_over, no_name}
 use Rattle.object_model.specs.Trees.{root_after, rows_of, strings_of, rows_from, leaf_row, height_of, last_name}
+use Rattle.object_model.proofs.PieceLemmas.{pieces_nil}
+use Rattle.cow_tree.specs.Namings.{changes_in_rows}
 use Rattle.cow_tree.specs.Views.{NodeView, TreeView}
 use Rattle.cow_tree.specs.Rows.{nodes, strings_from, last_named}
 use Rattle.cow_tree.specs.Versions.{tree_after, strings_after}
@@ -101,3 +103,7 @@ pub root_clash : (h : List ℕ → List ℕ) (block version : ℕ) (previous byt
     → IsClashIn h now (λ s. s ≡ root_string root) fault → IsClashIn h now (Contains (strings_after h block version previous bytes)) fault
 root_clash h block version previous bytes root now fault is clash =
     clash_wider h now (λ s. s ≡ root_string root) (Contains (strings_after h block version previous bytes)) fault (λ s same. in_root h block version previous bytes root s is same) clash
+
+-- version 0 has no strings but its root string
+pub first_count : (h : List ℕ → List ℕ) (block : ℕ) → 0 < block → changes_in_rows (rows_of h block []) [] ≡ 0
+first_count h block p = ap (λ ss. changes_in_rows (rows_from h (height_over (length ss)) ss) []) (ap (map leaf_string) (pieces_nil block p))
