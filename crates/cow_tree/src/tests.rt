@@ -33,105 +33,36 @@ fn tree_heights(rt: HostRuntime) -> Result<(), Fail> {
 
 #[test]
 fn changed_leaf_shares_the_rest(rt: HostRuntime) -> Result<(), Fail> {
-    let mut book = Book::new(rt.alloc(), Sha1Hash);
-    let first = filled(rt.alloc(), &mut book, 4097)?;
-    let edit = Action::Replace {
-        offset: 0,
-        content: Bytes::copy_from_slice(rt.alloc(), &[0])?,
-    };
-    let second = edited(&mut book, &first, edit)?;
-    assert_eq!(rt; second.strings()?.len(), 69);
-    assert_eq!(rt; book.namings(), 1 + 69 + 4);
-    assert!(rt;
-        is_named(
-            rt.alloc(),
-            &second,
-            "ea875a6499c1513a153c6401ddd120c6776ebb5d"
-        )?
-    );
+    let alloc = rt.alloc();
+    let content = Bytes::copy_from_slice(alloc, &[0])?;
+    let edit = Action::Replace { offset: 0, content };
+    let digits = "ea875a6499c1513a153c6401ddd120c6776ebb5d";
+    assert!(rt; makes(alloc, 4097, edit, digits, 69, 4)?);
     Ok(())
 }
 
 #[test]
 fn splice_in_the_middle(rt: HostRuntime) -> Result<(), Fail> {
-    let mut book = Book::new(rt.alloc(), Sha1Hash);
-    let first = filled(rt.alloc(), &mut book, 65 * 64)?;
+    let alloc = rt.alloc();
     let edit = Action::Splice {
         offset: 2080,
         remove: 0,
-        content: Bytes::copy_from_slice(rt.alloc(), b"!")?,
+        content: Bytes::copy_from_slice(alloc, b"!")?,
     };
-    let second = edited(&mut book, &first, edit)?;
-    assert_eq!(rt; second.strings()?.len(), 70);
-    assert_eq!(rt; book.namings(), 1 + 69 + 38);
-    assert!(rt;
-        is_named(
-            rt.alloc(),
-            &second,
-            "68dd2c89c3f72276153a38196356a89ae90df178"
-        )?
-    );
+    let digits = "68dd2c89c3f72276153a38196356a89ae90df178";
+    assert!(rt; makes(alloc, 65 * 64, edit, digits, 70, 38)?);
     Ok(())
 }
 
 #[test]
-fn each_edit(rt: HostRuntime) -> Result<(), Fail> {
+fn other_edits(rt: HostRuntime) -> Result<(), Fail> {
     let alloc = rt.alloc();
-    let mut book = Book::new(alloc, Sha1Hash);
-    let empty = Tree::first(alloc, &mut book, 64)?;
-    assert!(rt;
-        is_named(
-            rt.alloc(),
-            &empty,
-            "191f7f013da421f2430413489b3f9a02ca86288b"
-        )?
-    );
-    let edit = Action::Append {
-        content: Bytes::copy_from_slice(alloc, b"hello")?,
-    };
-    let appended = edited(&mut book, &empty, edit)?;
-    assert!(rt;
-        is_named(
-            rt.alloc(),
-            &appended,
-            "c6cbb23c4c484cd9224c453e290c25a290336ba9"
-        )?
-    );
-    let edit = Action::Replace {
-        offset: 3,
-        content: Bytes::copy_from_slice(alloc, b"p!")?,
-    };
-    let replaced = edited(&mut book, &appended, edit)?;
-    assert!(rt;
-        is_named(
-            rt.alloc(),
-            &replaced,
-            "7b35d12c6072772146768d77a4e82e22add1f87e"
-        )?
-    );
-    let truncated = edited(&mut book, &replaced, Action::Truncate { length: 3 })?;
-    assert!(rt;
-        is_named(
-            rt.alloc(),
-            &truncated,
-            "6788bed6e0f671fe1c70f9b3d2603e9704f1b55d"
-        )?
-    );
-    let edit = Action::Splice {
-        offset: 1,
-        remove: 1,
-        content: Bytes::copy_from_slice(alloc, b"ae")?,
-    };
-    let spliced = edited(&mut book, &truncated, edit)?;
-    assert!(rt;
-        is_named(
-            rt.alloc(),
-            &spliced,
-            "9a42a8d2e85eed3724d03c6236966a0763ef86c2"
-        )?
-    );
-    assert_eq!(rt; spliced.bytes()?.as_slice(), b"hael".as_slice());
-    assert_eq!(rt; appended.bytes()?.as_slice(), b"hello".as_slice());
+    let edit = Action::Truncate { length: 64 };
+    let digits = "1061df7c1e864a605d364477694244373ff41811";
+    assert!(rt; makes(alloc, 65, edit, digits, 2, 1)?);
+    let content = Bytes::copy_from_slice(alloc, b"hello")?;
+    let digits = "da0ec7b5a112931128406d703d0afb5948626a73";
+    assert!(rt; makes(alloc, 65, Action::Append { content }, digits, 4, 3)?);
     Ok(())
 }
 
@@ -153,10 +84,34 @@ fn leaf_names(rt: HostRuntime) -> Result<(), Fail> {
     Ok(())
 }
 
-// Whether the tree has the name of these digits.
-fn is_named(alloc: Global, tree: &Tree, digits: &str) -> Result<bool, Fail> {
-    let found = hex::encode(alloc, tree.name().bytes())?;
-    Ok(found.as_str() == digits)
+// Whether an edit of version 1, of so many bytes, makes a version of the name of these digits, with so many
+// strings, of which so many are named, and the others are those of version 1 and share its memory.
+fn makes(
+    alloc: Global,
+    length: usize,
+    edit: Action,
+    digits: &str,
+    strings: usize,
+    new: usize,
+) -> Result<bool, Fail> {
+    let mut book = Book::new(alloc, Sha1Hash);
+    let first = filled(alloc, &mut book, length)?;
+    let before = book.namings();
+    let second = edited(&mut book, &first, edit)?;
+    let name = hex::encode(alloc, second.name().bytes())?;
+    let found = second.strings()?;
+    drop(second);
+    Ok(
+        name.as_str() == digits
+            && found.len() == strings
+            && book.namings().saturating_sub(before) == new as u64
+            && unshared(&found) == new,
+    )
+}
+
+// How many of the strings have no other owner.
+fn unshared(strings: &[Bytes]) -> usize {
+    strings.iter().filter(|string| string.is_unique()).count()
 }
 
 // Version 1, of so many bytes of the sequence that begins 3c 47 d1 aa, with leaves of 64 bytes.
@@ -193,7 +148,7 @@ fn can_be_done(edit: &Action, count: usize) -> bool
 {
     match edit {
         Action::Replace { offset, content } => *offset as usize + content.len() <= count,
-        Action::Append { content } => count + content.len() <= 1_048_576,
+        Action::Append { content } => count.saturating_add(content.len()) <= 1_048_576,
         Action::Truncate { length } => *length as usize <= count,
         Action::Splice {
             offset,
@@ -201,7 +156,7 @@ fn can_be_done(edit: &Action, count: usize) -> bool
             content,
         } => {
             let taken = *offset as usize + *remove as usize;
-            taken <= count && count - *remove as usize + content.len() <= 1_048_576
+            taken <= count && (count - *remove as usize).saturating_add(content.len()) <= 1_048_576
         }
     }
 }
