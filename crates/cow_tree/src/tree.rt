@@ -82,10 +82,12 @@ impl Tree {
         )
     }
 
-    /// The next version: that of the bytes that the edits make, one after the other. It shares the
-    /// strings and names of what did not change, and the book's count rises by at most
-    /// (t + 1)(h + 2) + 1, where t leaves differ from the leaf at their place in this version or have
-    /// none there, and h is the greater height. Strings that were named before a fault stay in the book.
+    /// The next version: that of the bytes that the edits make, one after the other. The book's count
+    /// rises by at most (t + 1)(h + 2) + 1, where t leaves differ from the leaf at their place in this
+    /// version or have none there, and h is the greater height; behind a splice, each leaf that moved
+    /// counts. While it works it holds a copy of the bytes. The new version keeps its rows of names and
+    /// what changed, and shares the other strings with this one. Strings that were named before a fault
+    /// stay in the book.
     pub fn apply<H: Hash160 + Drop>(
         &self,
         book: &mut Book<H>,
