@@ -1,0 +1,5 @@
+pub mod Laws
+pub mod Namings
+pub mod Rows
+pub mod Versions
+pub mod Views
