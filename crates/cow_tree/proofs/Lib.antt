@@ -1,0 +1,7 @@
+mod WalkAmong
+mod WalkAsking
+mod WalkLevels
+mod WalkNodes
+mod WalkParts
+mod WalkRows
+mod WalkVersions

@@ -1,0 +1,3 @@
+pub mod WalkAnswered
+pub mod WalkAsked
+pub mod WalkNeeded
