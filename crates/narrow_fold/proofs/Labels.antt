@@ -9,7 +9,7 @@ use Rattle.std.specs.Cmp.Lexicographic.{slice_cmp, nat_list_cmp_total, lists_tie
 use Rattle.std.specs.BTreeMap.{is_at}
 use Rattle.std.specs.FinMap.{find, get-from_entries, slice_cmp-IsAntisymmetric, nat_cmp-IsAntisymmetric}
 use Rattle.text_model.specs.Objects.{Object, version_zero}
-use Rattle.object_fold.specs.Plain.{object_in, object_at, objects_of}
+use Rattle.narrow_fold.specs.Plain.{object_in, object_at, objects_of}
 
 equal_of : (o : Ordering) → is_eq o ≡ true → o ≡ Equal
 equal_of Less e = cc

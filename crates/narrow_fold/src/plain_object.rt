@@ -16,7 +16,7 @@ pub(crate) struct PlainObject {
 
 impl Model for PlainObject {
     ghost use Rattle.text_model.specs.Objects.{Object};
-    ghost use Rattle.object_fold.specs.Coding.{coded_object};
+    ghost use Rattle.narrow_fold.specs.Coding.{coded_object};
 
     ghost Value = { Object };
 

@@ -1,7 +1,7 @@
 // All objects, by their labels.
 ghost use Rattle.std.specs.Prelude.{◌≡◌, ◌+◌, ◌^◌, ◌<◌, ℕ, List, nat_le, length, IfOk, OnOk, OnErr, MatchOption, None};
 ghost use Rattle.text_model.specs.Objects.{after_append, most_bytes, version_zero};
-ghost use Rattle.object_fold.specs.Plain.{object_in, object_at, AppendsAt};
+ghost use Rattle.narrow_fold.specs.Plain.{object_in, object_at, AppendsAt};
 
 use crate::plain_object::PlainObject;
 use pond_base::{Label, OutOfMemory, Version};
@@ -18,7 +18,7 @@ pub struct PlainObjects {
 }
 
 impl Model for PlainObjects {
-    ghost use Rattle.object_fold.specs.Plain.{ObjectMap, coded_objects, objects_of};
+    ghost use Rattle.narrow_fold.specs.Plain.{ObjectMap, coded_objects, objects_of};
 
     ghost Value = { ObjectMap };
 

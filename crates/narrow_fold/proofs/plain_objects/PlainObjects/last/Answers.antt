@@ -1,8 +1,8 @@
 use Rattle.std.proofs.Common.{ap, sym, ◌∙◌, arith}
 use Rattle.text_model.specs.Objects.{Object}
-use Rattle.object_fold.proofs.Appends.{object_found, object_absent}
-use Rattle.object_fold.proofs.plain_objects.PlainObjects.last.Goals as goal
-use Rattle.object_fold.proofs.plain_objects.PlainObjects.last.Goals.{in_default-via-in-Some+else-version-gt0, in_default-via-in_default}
+use Rattle.narrow_fold.proofs.Appends.{object_found, object_absent}
+use Rattle.narrow_fold.proofs.plain_objects.PlainObjects.last.Goals as goal
+use Rattle.narrow_fold.proofs.plain_objects.PlainObjects.last.Goals.{in_default-via-in-Some+else-version-gt0, in_default-via-in_default}
 
 pub returns-in-Some : goal.returns-in-Some
 returns-in-Some c =

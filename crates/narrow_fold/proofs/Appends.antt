@@ -4,8 +4,8 @@ use Rattle.std.specs.Ordering.{nat_cmp}
 use Rattle.std.specs.Cmp.Lexicographic.{slice_cmp}
 use Rattle.std.specs.BTreeMap.{is_at}
 use Rattle.text_model.specs.Objects.{Object, version_zero, appended, after_append, most_bytes}
-use Rattle.object_fold.specs.Plain.{ObjectMap, objects_of, object_in, object_at, AppendsAt}
-use Rattle.object_fold.proofs.Labels.{same_label, label_test, object_in-objects_of}
+use Rattle.narrow_fold.specs.Plain.{ObjectMap, objects_of, object_in, object_at, AppendsAt}
+use Rattle.narrow_fold.proofs.Labels.{same_label, label_test, object_in-objects_of}
 
 there : (t : Bool) (old : List (List ℕ × Object)) (label other content : List ℕ) (made : Object) → (t ≡ true → label ≡ other)
     → made ≡ appended (unwrap_or (object_at old label) version_zero) content

@@ -6,9 +6,9 @@ use Rattle.std.specs.Map.{set_value}
 use Rattle.std.proofs.lemmas.Map.Steps.{set_value_same}
 use Rattle.std.proofs.lemmas.Result.{on_ok_weaker, on_err_weaker, IfOk-weaker}
 use Rattle.text_model.specs.Objects.{Object, appended, version_zero, most_bytes}
-use Rattle.object_fold.specs.Plain.{objects_of}
-use Rattle.object_fold.proofs.Appends.{object_found, object_absent, objects_append, appends_there}
-use Rattle.object_fold.proofs.plain_objects.PlainObjects.append.Goals as goal
+use Rattle.narrow_fold.specs.Plain.{objects_of}
+use Rattle.narrow_fold.proofs.Appends.{object_found, object_absent, objects_append, appends_there}
+use Rattle.narrow_fold.proofs.plain_objects.PlainObjects.append.Goals as goal
 
 pub append-requires : goal.append-requires
 append-requires c =

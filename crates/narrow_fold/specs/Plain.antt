@@ -7,7 +7,7 @@ use Rattle.std.specs.Coded.{Coded, coded_ℕ, coded_list}
 use Rattle.std.specs.BTreeMap.{is_at}
 use Rattle.std.specs.Map.{lookup}
 use Rattle.text_model.specs.Objects.{Object, version_zero, after_append}
-use Rattle.object_fold.specs.Coding.{coded_object}
+use Rattle.narrow_fold.specs.Coding.{coded_object}
 
 -- objects by their labels
 abbrev pub ObjectMap : Type 0

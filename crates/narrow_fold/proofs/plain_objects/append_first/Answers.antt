@@ -1,7 +1,7 @@
 use Rattle.std.proofs.Common.{Option, unwrap_or, ap, sym, ◌∙◌}
 use Rattle.text_model.specs.Objects.{Object, appended, version_zero}
-use Rattle.object_fold.proofs.Appends.{appends_there}
-use Rattle.object_fold.proofs.plain_objects.append_first.Goals as goal
+use Rattle.narrow_fold.proofs.Appends.{appends_there}
+use Rattle.narrow_fold.proofs.plain_objects.append_first.Goals as goal
 
 pub returns-clause-state : goal.returns-clause-state
 returns-clause-state c =
