@@ -8,9 +8,9 @@
 
 mod lookup;
 mod span;
+mod walk_nodes;
 #[cfg(test)]
 mod walk_tests;
-mod walk_nodes;
 mod walking;
 
 pub use lookup::Lookup;
