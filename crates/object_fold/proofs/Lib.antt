@@ -1,0 +1,3 @@
+mod ExecutedLemmas
+mod Lengths
+mod ShelfLemmas

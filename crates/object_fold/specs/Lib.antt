@@ -1,0 +1,4 @@
+pub mod Choice
+pub mod Executed
+pub mod Shelves
+pub mod Views
