@@ -1,3 +1,7 @@
+pub mod Levels
+pub mod Names
+pub mod Standing
+pub mod Steps
 mod WalkAmong
 mod WalkAsking
 mod WalkLevels

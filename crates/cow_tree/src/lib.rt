@@ -1,4 +1,13 @@
-//! The versions of objects as trees, and walks over trees whose strings are somewhere else.
+//! Versions of objects as trees of strings that share what did not change, and walks over trees whose
+//! strings are somewhere else.
+//!
+//! A [`Tree`] is one version. It stands on the strings of `tree_format`, the book of `block_names` and
+//! the definitions of `object_model`. A tree stands for a list of versions, the newest first: that is a
+//! relation, `StandsFor`, which the contracts quantify over, and the older versions are not kept in it.
+//! A new version keeps the strings and names of what did not change, and the book's count rises by at
+//! most (t + 1)(h + 2) + 1, where t leaves changed and h is the greater height. The layer above uses
+//! that `apply` takes the tree of a list of versions to the tree of that list and the changed bytes,
+//! and that a tree stays one as the book grows.
 //!
 //! A [`walk`] goes over the tree of a version from its name alone. It asks a [`Lookup`] for the strings,
 //! which finds some of them and need not be trusted: it comes to the wanted bytes of that very version,
@@ -6,8 +15,18 @@
 //! known afterwards too.
 #![tactic(auto)]
 
+mod building;
+mod edits;
+mod inners;
+mod leaves;
 mod lookup;
+mod node;
+mod row;
+mod rows;
 mod span;
+#[cfg(test)]
+mod tests;
+mod tree;
 mod walk_nodes;
 #[cfg(test)]
 mod walk_tests;
@@ -15,4 +34,5 @@ mod walking;
 
 pub use lookup::Lookup;
 pub use span::Span;
+pub use tree::{Tree, trees_stay};
 pub use walking::{Walked, needed_strings_are_strings, walk};
