@@ -1,6 +1,6 @@
 -- The objects after one more request.
 use Rattle.std.proofs.Common.{◌≡◌, ◌==◌, ◌&&◌, ◌||◌, ℕ, zero, suc, ◌+◌, ◌≤◌, Bool, true, false, cond, List, [], ◌∷◌, ◌++◌, length, map, filter, drop, All, Result, Ok, Err, refl, ap, sym, ◌∙◌, subst, arith, length-append}
-use Rattle.std.proofs.lemmas.Bool.{eqb-true}
+use Rattle.std.proofs.lemmas.Bool.{eqb-true, and_parts, false≢true}
 use Rattle.std.proofs.lemmas.List.Elements.{All-push}
 use Rattle.std.proofs.lemmas.Slice.Eq.{bytes_eq-Decides}
 use Rattle.std.specs.List.{list_any}
@@ -50,24 +50,6 @@ pub length-in_order : (made : List Made) → length (in_order made) ≡ length m
 length-in_order [] = refl
 length-in_order (m ∷ made) = omega (arith, length-append (in_order made) ((m.label, record { 0 = length (versions_of m.label made) }) ∷ []), length-in_order made)
 
--- ---- requests that were seen
-
-and_both : (a b : Bool) → (a && b) ≡ true → (a ≡ true) × (b ≡ true)
-and_both true true e = (refl, refl)
-and_both true false e = absurd (cc)
-and_both false b e = absurd (cc)
-
--- a request with the client and number of another is seen where the other is
-same_seen : (r s : Request) (xs : List Request) → same_number r s ≡ true → list_any (same_number r) xs ≡ list_any (same_number s) xs
-same_seen r s xs e =
-    let both = and_both (r.client.0 == s.client.0) (r.number == s.number) e in
-    ap (λ n. list_any (λ (x : Request). n == x.client.0 && r.number == x.number) xs) (eqb-true r.client.0 s.client.0 both.0)
-    ∙ ap (λ n. list_any (λ (x : Request). s.client.0 == x.client.0 && n == x.number) xs) (eqb-true r.number s.number both.1)
-
-once_more : (same before : Bool) → (same ≡ true → before ≡ true) → before ≡ (same || before)
-once_more true before e = e refl
-once_more false before e = refl
-
 -- ---- trees
 
 -- the trees under each label, after one more
@@ -90,6 +72,45 @@ more_known h held old new label tree more all one other =
 same_label : (a b : List ℕ) → bytes_eq a b ≡ true → a ≡ b
 same_label a b e = (bytes_eq-Decides a b).0 e
 
+-- the newest tree of an object stands for its versions
+pub newest_for : (h : List ℕ → List ℕ) (block : ℕ) (requests : List Request) (objects : ObjectsView) → AreAfter h block requests objects → (label : List ℕ)
+    → StandsFor h block (newest_in objects.trees label) (newest (versions_after h block label requests)) (drop 1 (versions_after h block label requests))
+newest_for h block requests objects after label =
+    newest_is h block objects.trees label (newest (versions_after h block label requests)) (drop 1 (versions_after h block label requests))
+    (after.trees label ∙ ap (trees_of h block) (split label (made_by h block requests)))
+
+-- its number is one less than the number of versions
+pub last_number : (h : List ℕ → List ℕ) (block : ℕ) (requests : List Request) (objects : ObjectsView) → AreAfter h block requests objects → (label : List ℕ)
+    → length (versions_after h block label requests) ≡ (newest_in objects.trees label).root.version.0 + 1
+last_number h block requests objects after label =
+    let number = ap (λ (t : TreeView). t.root.version.0) (newest_for h block requests objects after label) in
+    let more = ap length (split label (made_by h block requests)) in
+    omega (arith, number, more)
+
+-- its number is at most the number of versions that were made
+pub few_made : (h : List ℕ → List ℕ) (block : ℕ) (requests : List Request) (objects : ObjectsView) → AreAfter h block requests objects → (label : List ℕ)
+    → (newest_in objects.trees label).root.version.0 ≤ length objects.made
+few_made h block requests objects after label =
+    let count : length objects.made ≡ length (made_by h block requests) = ap length after.made ∙ length-in_order (made_by h block requests) in
+    omega (arith, few_versions label (made_by h block requests), last_number h block requests objects after label)
+
+-- the objects before any request
+pub after_nothing : (h : List ℕ → List ℕ) (block : ℕ) (first : TreeView) (objects : ObjectsView) → StandsFor h block first [] [] → objects ≡ record { trees = record { first = first; later = [] }; seen = []; made = [] } → AreAfter h block [] objects
+after_nothing h block first objects stands is = record {
+  trees = λ label. ap (λ (o : ObjectsView). trees_in o.trees label) is ∙ ap (λ t. t ∷ []) stands;
+  seen = λ request. ap (λ (o : ObjectsView). is_seen o.seen request) is;
+  made = ap (λ (o : ObjectsView). o.made) is;
+}
+
+-- a book that holds the tree of version 0 knows them
+pub known_nothing : (h : List ℕ → List ℕ) (held : Held) (block : ℕ) (first : TreeView) (objects : ObjectsView) → StandsFor h block first [] [] → IsTreeIn h held first → objects ≡ record { trees = record { first = first; later = [] }; seen = []; made = [] } → AreKnown h held objects
+known_nothing h held block first objects stands one is = record {
+  block = block;
+  requests = [];
+  after = after_nothing h block first objects stands is;
+  known = λ label. subst (λ (o : ObjectsView). All (IsTreeIn h held) (trees_in o.trees label)) (sym is) (All-push (IsTreeIn h held) [] first (λ k d l. absurd (omega arith)) one);
+}
+
 module _ (h : List ℕ → List ℕ) (block : ℕ) (request : Request) (earlier : List Request) (old : ObjectsView) (after : AreAfter h block earlier old) where
   abbrev made : List Made
   made = made_by h block earlier
@@ -99,33 +120,18 @@ module _ (h : List ℕ → List ℕ) (block : ℕ) (request : Request) (earlier 
 
   -- ---- what the request does
 
-  pub effect_repeats : is_seen old.seen request ≡ true → effect_after h block request earlier ≡ Repeats
-  effect_repeats seen = ap (λ b. cond b Repeats (effect_of_outcome (outcome h block request.update.clauses versions))) (sym (after.seen request) ∙ seen)
-
   pub effect_first : is_seen old.seen request ≡ false → (r : Result (List ℕ) Refusal) → outcome h block request.update.clauses versions ≡ r → effect_after h block request earlier ≡ effect_of_outcome r
   effect_first new r is =
       ap (λ b. cond b Repeats (effect_of_outcome (outcome h block request.update.clauses versions))) (sym (after.seen request) ∙ new) ∙ ap effect_of_outcome is
 
   -- the newest tree stands for the versions
-  pub newest_stands : StandsFor h block (newest_in old.trees request.label) (newest versions) (drop 1 versions)
-  newest_stands = newest_is h block old.trees request.label (newest versions) (drop 1 versions) (after.trees request.label ∙ ap (trees_of h block) (split request.label made))
-
-  -- it has room for the next number
-  pub newest_number : (newest_in old.trees request.label).root.version.0 ≤ length old.made
-  newest_number =
-      let number : (newest_in old.trees request.label).root.version.0 ≡ length (drop 1 versions) = ap (λ (t : TreeView). t.root.version.0) newest_stands in
-      let more : length versions ≡ suc (length (drop 1 versions)) = ap length (split request.label made) in
-      let count : length old.made ≡ length made = ap length after.made ∙ length-in_order made in
-      omega (arith, few_versions request.label made)
+  newest_stands : StandsFor h block (newest_in old.trees request.label) (newest versions) (drop 1 versions)
+  newest_stands = newest_for h block earlier old after request.label
 
   -- ---- the objects after it
 
   pub seen_more : (new : ObjectsView) → SeesOneMore old.seen new.seen request → (r : Request) → is_seen new.seen r ≡ list_any (same_number r) (request ∷ earlier)
   seen_more new more r = more r ∙ ap (λ b. same_number r request || b) (after.seen r)
-
-  seen_again : is_seen old.seen request ≡ true → (r : Request) → is_seen old.seen r ≡ list_any (same_number r) (request ∷ earlier)
-  seen_again seen r =
-      after.seen r ∙ once_more (same_number r request) (list_any (same_number r) earlier) (λ same. same_seen r request earlier same ∙ sym (after.seen request) ∙ seen)
 
   module _ (new : ObjectsView) (e : Effect) (is : effect_after h block request earlier ≡ e) (none : with_effect request.label e made ≡ made) (trees : new.trees ≡ old.trees) (same_made : new.made ≡ old.made)
       (seen : (r : Request) → is_seen new.seen r ≡ list_any (same_number r) (request ∷ earlier)) where
@@ -137,9 +143,6 @@ module _ (h : List ℕ → List ℕ) (block : ℕ) (request : Request) (earlier 
           seen = seen;
           made = same_made ∙ after.made ∙ ap in_order (sym same);
         }
-
-  pub after_repeat : is_seen old.seen request ≡ true → AreAfter h block (request ∷ earlier) old
-  after_repeat seen = after_none old Repeats (effect_repeats seen) refl refl refl (seen_again seen)
 
   pub after_refusal : (new : ObjectsView) (refusal : Refusal) → is_seen old.seen request ≡ false → outcome h block request.update.clauses versions ≡ Err refusal
       → new.trees ≡ old.trees → new.made ≡ old.made → SeesOneMore old.seen new.seen request → AreAfter h block (request ∷ earlier) new
@@ -182,5 +185,5 @@ module _ (h : List ℕ → List ℕ) (block : ℕ) (request : Request) (earlier 
         let known : outcome h block request.update.clauses versions ≡ act_all actions (newest versions) = ap (outcome h block request.update.clauses) (split request.label made) ∙ d.0 in
         elim (act_all actions (newest versions)) as (λ r. act_all actions (newest versions) ≡ r → IsOk r → (content : List ℕ) × (effect_after h block request earlier ≡ Makes content) × P block content versions) [
           | Ok content ↦ λ is ok. (content, effect_first first (Ok content) (known ∙ is), subst (P block content) (sym (split request.label made)) (next block (newest versions) content (drop 1 versions) newest_stands is))
-          | Err refusal ↦ λ is ok. absurd ok
+          | Err refusal ↦ λ is ok. absurd (false≢true ok)
         ] refl d.1

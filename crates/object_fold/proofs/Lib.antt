@@ -1,3 +1,6 @@
+mod ChoiceLemmas
 mod ExecutedLemmas
+mod Execution
 mod Lengths
+mod SeenLemmas
 mod ShelfLemmas

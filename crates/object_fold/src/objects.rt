@@ -96,7 +96,11 @@ impl Objects {
                 return Ok(told(refused));
             }
         };
-        let tree = self.trees.newest(&request.label).apply(book, actions)?;
+        let newest = self.trees.newest(&request.label);
+        let tree = match newest.apply(book, actions) {
+            Ok(tree) => tree,
+            Err(fault) => return Err(fault),
+        };
         let outcome = Outcome::Made {
             version: tree.root().version,
             name: tree.name(),
