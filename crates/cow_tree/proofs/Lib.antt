@@ -1,5 +1,9 @@
+pub mod Bound
+pub mod Counted
 pub mod Levels
+pub mod Making
 pub mod Names
+pub mod Results
 pub mod Standing
 pub mod Steps
 mod WalkAmong

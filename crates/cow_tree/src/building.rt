@@ -1,11 +1,12 @@
 // The making of a tree.
-ghost use Rattle.std.specs.Prelude.{◌≡◌, ◌+◌, ◌≤◌, map, All, Contains, IfOk, IfErr, OnOk};
+ghost use Rattle.std.specs.Prelude.{◌≡◌, ◌+◌, ◌<◌, ◌≤◌, map, All, Contains, IfOk, IfErr, OnOk};
 ghost use Rattle.std.specs.List.{flat_map};
+ghost use Rattle.std.specs.FinMap as finite;
 ghost use Rattle.block_names.specs.Growth.{Grew, Holds, IsClashIn, keep_all};
-ghost use Rattle.tree_format.specs.Strings.{height_over, no_name};
+ghost use Rattle.tree_format.specs.Strings.{height_over, no_name, root_string};
 ghost use Rattle.tree_format.specs.Grammar.{IsRoot};
-ghost use Rattle.object_model.specs.Trees.{root_after, rows_of};
-ghost use Rattle.cow_tree.specs.Rows.{strings_in, last_named, IsKnown};
+ghost use Rattle.object_model.specs.Trees.{root_after, rows_of, strings_of, height_of};
+ghost use Rattle.cow_tree.specs.Rows.{nodes, strings_in, last_named, IsKnown};
 ghost use Rattle.cow_tree.specs.Versions.{tree_after, strings_after};
 ghost use Rattle.cow_tree.specs.Namings.{changes_in_rows};
 
@@ -37,10 +38,7 @@ pub(crate) fn build<H: Hash160 + Drop>(
     ensures counted { book.new.namings ≤ book.old.namings + changes_in_rows (rows_of H.naming block bytes.now) (map strings_in old.now) + 1 }
     ensures fault { IfErr result (IsClashIn H.naming book.new.held (Contains (strings_after H.naming block version.0 previous bytes.now))) }
 {
-    let leaves = leaf_strings(alloc, first_row(old), block as usize, bytes)?;
-    let height = height(leaves.len());
-    let mut rows = Items::new(alloc);
-    add_rows(alloc, book, old, height, &leaves, &mut rows)?;
+    let (rows, height) = name_rows(alloc, book, old, block, bytes)?;
     let root = Root {
         version,
         length: bytes.len() as u32,
@@ -49,9 +47,51 @@ pub(crate) fn build<H: Hash160 + Drop>(
         top: top_name(rows.as_slice()),
         previous,
     };
-    let string = write_root(alloc, &root)?;
-    let name = book.name(string.as_slice())?;
+    let name = name_root(alloc, book, &root)?;
     Ok(Tree::new(alloc, rows, root, name))
+}
+
+// The rows of some bytes under their names, and how many of them stand over the leaves.
+fn name_rows<H: Hash160 + Drop>(
+    alloc: Global,
+    book: &mut Book<H>,
+    old: &[Items<Node>],
+    block: u32,
+    bytes: &[u8],
+) -> Result<(Items<Items<Node>>, u8), NameFault>
+    requires some { 0 < block }
+    requires most { block ≤ 8192 }
+    requires known { All (All (IsKnown H.naming book.old.held)) old.now }
+    ensures rows { IfOk result (λ made. made.0 ≡ map (nodes H.naming) (rows_of H.naming block bytes.now)) }
+    ensures height { IfOk result (λ made. made.1 ≡ height_of block bytes.now) }
+    ensures known { OnOk result (All (Holds H.naming book.new.held) (strings_of H.naming block bytes.now)) }
+    ensures held { OnOk result (book.new.held ≡ keep_all H.naming (strings_of H.naming block bytes.now) book.old.held) }
+    ensures grew { Grew H.naming book.old.held (Contains (strings_of H.naming block bytes.now)) book.new.held }
+    ensures counted { book.new.namings ≤ book.old.namings + changes_in_rows (rows_of H.naming block bytes.now) (map strings_in old.now) }
+    ensures fault { IfErr result (IsClashIn H.naming book.new.held (Contains (strings_of H.naming block bytes.now))) }
+{
+    let leaves = leaf_strings(alloc, first_row(old), block as usize, bytes)?;
+    let height = height(leaves.len());
+    let mut rows = Items::new(alloc);
+    add_rows(alloc, book, old, height, &leaves, &mut rows)?;
+    Ok((rows, height))
+}
+
+// The name of the root string of a root.
+fn name_root<H: Hash160 + Drop>(
+    alloc: Global,
+    book: &mut Book<H>,
+    root: &Root,
+) -> Result<Name, NameFault>
+    requires { IsRoot root.now }
+    ensures named { IfOk result (λ name. name ≡ H.naming (root_string root.now)) }
+    ensures held { OnOk result (book.new.held ≡ finite.insert book.old.held (H.naming (root_string root.now)) (root_string root.now)) }
+    ensures grew { Grew H.naming book.old.held (λ s. s ≡ root_string root.now) book.new.held }
+    ensures counted { book.new.namings ≤ book.old.namings + 1 }
+    ensures fault { IfErr result (IsClashIn H.naming book.new.held (λ s. s ≡ root_string root.now)) }
+{
+    let string = write_root(alloc, root)?;
+    book.name(string.as_slice())
 }
 
 // How many levels of inner strings stand over so many leaves.

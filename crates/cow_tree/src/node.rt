@@ -58,3 +58,13 @@ pub(crate) fn node_at(nodes: &[Node], place: usize) -> Option<&Node>
 {
     nodes.get(place)
 }
+
+/// The name of the node at a place, where there is one.
+pub(crate) fn name_at(nodes: &[Node], place: usize) -> Option<Name>
+    ensures { result ≡ option_map (λ (n : NodeView). n.name) (slice_get nodes.now place) }
+{
+    match node_at(nodes, place) {
+        Some(node) => Some(node.name),
+        None => None,
+    }
+}

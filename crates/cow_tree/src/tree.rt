@@ -10,7 +10,7 @@ ghost use Rattle.cow_tree.specs.Laws as law;
 
 use crate::building::build;
 use crate::edits::{content, edit_all};
-use crate::node::{Node, node_at};
+use crate::node::{Node, name_at};
 use crate::rows::first_row;
 use block_names::{Book, Hash160, NameFault};
 use bytes::Bytes;
@@ -134,10 +134,7 @@ impl Tree {
     pub fn leaf_name(&self, place: u32) -> Option<Name>
         ensures { (h : List ℕ → List ℕ) (block : ℕ) (bytes : List ℕ) (older : List (List ℕ)) → StandsFor h block self.now bytes older → result ≡ leaf_name_of h block bytes place }
     {
-        match node_at(first_row(self.rows.as_slice()), place as usize) {
-            Some(leaf) => Some(leaf.name()),
-            None => None,
-        }
+        name_at(first_row(self.rows.as_slice()), place as usize)
     }
 
     /// The bytes of the version.
