@@ -186,24 +186,16 @@ fn a_repeat_does_nothing(rt: HostRuntime) -> Result<(), Fail> {
 
 // The string of an append to the object `a`, by client 0.
 fn append_string(alloc: Global, number: u32, content: &[u8]) -> Result<Vec<u8>, Fail> {
+    let Ok(count) = u32::try_from(content.len()) else {
+        return Err(Fail::new("no content"));
+    };
     let mut string = Vec::new(alloc);
     string.extend_from_slice(&[6, 0])?;
     string.extend_from_slice(&number.to_be_bytes())?;
     string.extend_from_slice(&[1, b'a', 1, 0, 1, 2])?;
-    string.extend_from_slice(&(content.len() as u32).to_be_bytes())?;
+    string.extend_from_slice(&count.to_be_bytes())?;
     string.extend_from_slice(content)?;
     Ok(string)
-}
-
-// The bytes that `gen:0:65536` stands for in scripts.
-fn generated(alloc: Global) -> Result<Vec<u8>, Fail> {
-    let mut bytes = Vec::new(alloc);
-    let mut x: u32 = 0;
-    for _ in 0..65536 {
-        x = x.wrapping_mul(1664525).wrapping_add(1013904223);
-        bytes.push((x >> 24) as u8)?;
-    }
-    Ok(bytes)
 }
 
 // Appends so often a content to an object with leaves of 8,192 bytes, and then a byte.
@@ -228,11 +220,11 @@ fn fill<H: Hash160 + Drop>(
 fn full_object(rt: HostRuntime) -> Result<(), Fail> {
     let alloc = rt.alloc();
     let mut book = Book::new(alloc, Sha1Hash);
-    let content = generated(alloc)?;
+    let content = vec![in alloc; b'x'; 65536]?;
     let Ran { objects, outcomes } = fill(alloc, &mut book, &content, 16)?;
     assert_eq!(rt; outcomes.len(), 17);
-    let first = made(alloc, 1, "406b5ea0f554edd4879aa58f973f43b0fcdff475")?;
-    let last = made(alloc, 16, "780ef070bcbb490819a0cdc645fc0e7478810195")?;
+    let first = made(alloc, 1, "e5b7def672fabc40e4c3594aa1f3028dc87921bf")?;
+    let last = made(alloc, 16, "e9ae402f1eb6b898c4a3e9f644ca38c5c956016a")?;
     assert_eq!(rt; outcomes.first(), Some(&first));
     assert_eq!(rt; outcomes.get(15), Some(&last));
     assert_eq!(rt; outcomes.last(), Some(&Outcome::TooLong));
