@@ -1,5 +1,5 @@
 -- What a tree that stands for versions holds.
-use Rattle.std.proofs.Common.{◌≡◌, ℕ, zero, suc, ◌+◌, ◌*◌, ◌^◌, ◌<◌, ◌≤◌, get_or, List, [], ◌∷◌, ◌++◌, map, length, All, Option, Some, None, Ok, IsOk, option_map, slice_get, ltb, cond, true, false, refl, ap, sym, ◌∙◌, subst, arith}
+use Rattle.std.proofs.Common.{◌≡◌, ℕ, zero, suc, ◌+◌, ◌*◌, ◌^◌, ◌<◌, ◌≤◌, get_or, List, [], ◌∷◌, ◌++◌, map, length, All, Some, None, Ok, option_map, slice_get, ltb, cond, true, false, refl, ap, sym, ◌∙◌, subst, arith}
 use Rattle.std.proofs.lemmas.List.Elements.{All-from_recursion, recursion_from_All}
 use Rattle.std.proofs.lemmas.Option.{slice_get-map}
 use Rattle.std.proofs.lemmas.Bool.{ltb-true, ltb-false}
@@ -17,7 +17,7 @@ use Rattle.object_model.proofs.PieceLemmas.{piece_at, no_piece_at}
 use Rattle.object_model.proofs.LawLemmas.{joined, act_all_short}
 use Rattle.object_model.proofs.RootLemmas.{is_root}
 use Rattle.cow_tree.specs.Views.{NodeView, TreeView}
-use Rattle.cow_tree.specs.Rows.{nodes, strings_in, names_in, IsKnown}
+use Rattle.cow_tree.specs.Rows.{nodes, strings_in, IsKnown}
 use Rattle.cow_tree.specs.Versions.{StandsFor, ForNext, IsTreeIn, tree_after, strings_after, bytes_in, content_of}
 use Rattle.cow_tree.specs.Laws.{Keeps}
 

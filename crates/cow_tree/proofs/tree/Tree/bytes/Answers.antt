@@ -1,8 +1,7 @@
 use Rattle.std.proofs.Common.{[], ap, ◌∙◌, get_or}
 use Rattle.std.proofs.lemmas.Result.{IfOk-weaker}
-use Rattle.cow_tree.specs.Views.{TreeView}
 use Rattle.cow_tree.specs.Versions.{bytes_in, content_of}
-use Rattle.cow_tree.proofs.Standing.{block_is, stood_for, least_of}
+use Rattle.cow_tree.proofs.Standing.{stood_for, least_of}
 use Rattle.cow_tree.proofs.tree.Tree.bytes.Goals as goal
 
 pub returns-clause-newest : goal.returns-clause-newest
