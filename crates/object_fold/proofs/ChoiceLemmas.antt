@@ -1,5 +1,5 @@
 -- What the clause that decides comes to.
-use Rattle.std.proofs.Common.{◌≡◌, ℕ, Bool, true, false, cond, List, [], ◌∷◌, Option, Some, None, length, Result, Ok, Err, refl, ap, sym, ◌∙◌, subst}
+use Rattle.std.proofs.Common.{◌≡◌, ℕ, Bool, true, false, cond, List, [], ◌∷◌, Option, Some, None, Result, Ok, Err, refl, ap, sym, ◌∙◌}
 use Rattle.std.specs.Prelude.{IsOk}
 use Rattle.std.specs.List.{list_all}
 use Rattle.guarded_update.specs.declared.update.Action.{Action}

@@ -1,15 +1,14 @@
 -- What the execution of one request comes to, at each of its ends.
-use Rattle.std.proofs.Common.{◌≡◌, ◌+◌, ◌<◌, ◌≤◌, ◌^◌, ℕ, Bool, true, false, List, [], ◌∷◌, length, drop, All, Result, Ok, Err, slice_index_or, zero, suc, refl, ap, sym, ◌∙◌, subst, arith}
+use Rattle.std.proofs.Common.{◌≡◌, ◌+◌, ◌<◌, ◌≤◌, ◌^◌, ℕ, false, List, [], ◌∷◌, length, drop, All, Err, slice_index_or, suc, ap, sym, ◌∙◌, subst, arith}
 use Rattle.std.specs.Prelude.{IsOk, Contains}
 use Rattle.block_names.specs.Held.{Held}
-use Rattle.block_names.specs.Growth.{Grew, keep_all}
+use Rattle.block_names.specs.Growth.{Grew}
 use Rattle.guarded_update.specs.declared.request.Request.{Request}
 use Rattle.guarded_update.specs.declared.update.Action.{Action}
 use Rattle.guarded_update.specs.declared.update.Clause.{Clause}
 use Rattle.object_model.specs.Trees.{version_strings}
 use Rattle.object_model.specs.Updates.{Refusal, newest, outcome, act_all}
-use Rattle.object_model.specs.Folds.{Effect, Makes, Refuses, made_by, versions_of, versions_after}
-use Rattle.ring_message.specs.declared.outcome.Outcome.{Outcome}
+use Rattle.object_model.specs.Folds.{Makes, Refuses, made_by, versions_after}
 use Rattle.ring_message.specs.declared.outcome.Outcome.TheVariants as told
 use Rattle.cow_tree.specs.Views.{TreeView}
 use Rattle.cow_tree.specs.Namings.{most_namings}
@@ -18,7 +17,7 @@ use Rattle.cow_tree.proofs.Standing.{stays, stood_for}
 use Rattle.object_fold.specs.Views.{ShelfView, ObjectsView}
 use Rattle.object_fold.specs.Shelves.{trees_in, later_at, last_tree, newest_in}
 use Rattle.object_fold.specs.Executed.{is_seen, AreAfter, AreKnown, SeesOneMore, Keeps, effect_after, outcome_of, outcome_after, strings_of_effect, strings_named, most_for_effect, most_named}
-use Rattle.object_fold.proofs.ExecutedLemmas.{split, newest_for, last_number, few_made, effect_first, after_refusal, after_made, more_known, for_made}
+use Rattle.object_fold.proofs.ExecutedLemmas.{split, newest_for, few_made, effect_first, after_refusal, after_made, more_known, for_made}
 
 -- what holds of each tree holds of the last
 last_one : (P : TreeView → Type 0) (first : TreeView) (trees : List TreeView) → P first → ((k : ℕ) (d : TreeView) → k < length trees → P (slice_index_or trees k d)) → P (last_tree first trees)
@@ -72,7 +71,7 @@ module _ (h : List ℕ → List ℕ) (old inside : ObjectsView) (view : inside �
           subst (IsTreeIn h held) (sym old_two) (last_one (IsTreeIn h held) old.trees.first (later_at old.trees.later request.label) (all 0 old.trees.first (omega arith)) (λ k d l. all (suc k) d (omega arith)))
 
       pub has_room : length old.made + 1 < 2 ^ 32 → two.root.version.0 + 1 < 2 ^ 32
-      has_room room = 
+      has_room room =
           let number : two.root.version.0 ≡ (newest_in old.trees request.label).root.version.0 = ap (λ (t : TreeView). t.root.version.0) old_two in
           omega (arith, few_made h known.block known.requests old known.after request.label)
 

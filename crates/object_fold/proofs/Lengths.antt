@@ -23,7 +23,7 @@ one_length : (action : Action) (bytes : List ℕ) → measured (act action bytes
 one_length (Replace offset content) bytes =
     either (nat_le (offset + length content) (length bytes)) (spliced offset (length content) content bytes) (length bytes) OutOfRange
     (λ t. let within = leb-true (offset + length content) (length bytes) t in omega (arith, within, length-spliced offset (length content) content bytes within))
-one_length (Append content) bytes = 
+one_length (Append content) bytes =
     ap measured (ap (λ n. cond (nat_le n largest) (Ok (bytes ++ content)) (Err TooLong)) refl)
     ∙ either (nat_le (length bytes + length content) largest) (bytes ++ content) (length bytes + length content) TooLong (λ t. length-append bytes content)
 one_length (Truncate kept) bytes =

@@ -163,11 +163,7 @@ fn a_repeat_does_nothing(rt: HostRuntime) -> Result<(), Fail> {
     let mut book = Book::new(alloc, Sha1Hash);
     // Client 1 truncates `b` to 0 bytes as its own request 1, which is no repeat.
     let other = "06010000000101620100010300000000";
-    let Ran { objects, outcomes } = run_all(
-        alloc,
-        &mut book,
-        &[APPEND, APPEND, other, other],
-    )?;
+    let Ran { objects, outcomes } = run_all(alloc, &mut book, &[APPEND, APPEND, other, other])?;
     let expected = [
         made(alloc, 1, HI)?,
         Outcome::Repeat,

@@ -1,4 +1,4 @@
-use Rattle.std.proofs.Common.{◌≡◌, List, ap, sym, ◌∙◌, refl, rules, arith}
+use Rattle.std.proofs.Common.{◌≡◌, ap, sym, ◌∙◌, refl}
 use Rattle.std.specs.Prelude.{Contains}
 use Rattle.block_names.specs.Growth.{Grew, IsClashIn, keep_all}
 use Rattle.tree_format.specs.declared.root.Root.{Root}

@@ -1,4 +1,4 @@
-use Rattle.std.proofs.Common.{List, subst, rules}
+use Rattle.std.proofs.Common.{subst, rules}
 use Rattle.object_fold.specs.Executed.{SeesOneMore}
 use Rattle.object_fold.proofs.SeenLemmas.{put_pair}
 use Rattle.object_fold.proofs.seen.Seen.add.Goals as goal

@@ -1,4 +1,4 @@
-use Rattle.std.proofs.Common.{List, [], ◌∷◌, ◌++◌, Option, Some, unwrap_or, ap, sym, subst, ◌∙◌, rules}
+use Rattle.std.proofs.Common.{List, [], ◌∷◌, ◌++◌, Option, unwrap_or, ap, subst, ◌∙◌, rules}
 use Rattle.std.proofs.lemmas.Result.{on_ok_weaker}
 use Rattle.cow_tree.specs.Views.{TreeView}
 use Rattle.object_fold.specs.Views.{ShelfView}
@@ -12,7 +12,7 @@ returns-in-Some c =
     on_ok_weaker c.push.result (λ e. (
       ap (λ (s : ShelfView). s.first) c.self.view_is,
       subst (λ (s : ShelfView). HasOneLater s.later new c.args.label.now c.args.tree) c.self.view_is
-      (put_more c.self.inside.later.entries new c.args.label.now c.args.tree c.push.new.self
-      (λ other. ((c.get_mut.follows.holds c.push.new.self).3 (search rules)).0 other)
-      (e ∙ ap (λ (o : Option (List TreeView)). unwrap_or o [] ++ c.args.tree ∷ []) c.in-Some.ensures.value)),
+          (put_more c.self.inside.later.entries new c.args.label.now c.args.tree c.push.new.self
+          (λ other. ((c.get_mut.follows.holds c.push.new.self).3 (search rules)).0 other)
+          (e ∙ ap (λ (o : Option (List TreeView)). unwrap_or o [] ++ c.args.tree ∷ []) c.in-Some.ensures.value)),
     )) c.push.ensures.ok
