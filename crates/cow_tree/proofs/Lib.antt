@@ -3,6 +3,13 @@ pub mod Counted
 pub mod Levels
 pub mod Making
 pub mod Names
+pub mod Results
 pub mod Standing
 pub mod Steps
-pub mod Results
+mod WalkAmong
+mod WalkAsking
+mod WalkLevels
+mod WalkNodes
+mod WalkParts
+mod WalkRows
+mod WalkVersions

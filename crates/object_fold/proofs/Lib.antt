@@ -1,2 +1,6 @@
-mod Appends
-mod Labels
+mod ChoiceLemmas
+mod ExecutedLemmas
+mod Execution
+mod Lengths
+mod SeenLemmas
+mod ShelfLemmas

@@ -1,2 +1,4 @@
-pub mod Coding
-pub mod Plain
+pub mod Choice
+pub mod Executed
+pub mod Shelves
+pub mod Views

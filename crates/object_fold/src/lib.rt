@@ -1,13 +1,21 @@
-//! The objects that a list of executed appends makes.
+//! Objects by the execution of requests, one after the other.
 //!
-//! [`PlainObjects`] keeps the last version of each object, by its label. It stands on `text_model`,
-//! whose definition of objects folds the whole list. The layer above uses that each append takes the
-//! objects one step along that fold.
+//! [`Objects`] keeps the trees of all versions of all objects. It stands on the trees of `cow_tree` and
+//! on `object_model`, whose fold of a list of requests is what it computes: which objects a value stands
+//! for is the relation `AreAfter` of a list of executed requests, which the contracts quantify over. The
+//! layer above uses that `execute` takes the objects of a list of requests to those of that list and
+//! one more, that the outcome is the fold's, and that a version names only the strings that changed.
+//! A version costs memory for what changed, and for its rows of names.
 #![tactic(auto)]
 
-mod plain_object;
-mod plain_objects;
+mod choice;
+mod decision;
+mod fate;
+mod objects;
+mod seen;
+mod shelf;
 #[cfg(test)]
 mod tests;
 
-pub use plain_objects::PlainObjects;
+pub use objects::Objects;
+pub use ring_message::Outcome;

@@ -7,7 +7,7 @@ use Rattle.std.proofs.Math.Seq.{take-append_seam, take-append-add}
 use Rattle.std.proofs.lemmas.Grind.{common_steps, fold-append}
 use Rattle.std.proofs.lemmas.List.{map-append, length-map, drop-take, take-append-le}
 use Rattle.pond_base.specs.Outside.{AppendsPrefix}
-use Rattle.object_fold.specs.Plain.{ObjectMap, object_in}
+use Rattle.narrow_fold.specs.Plain.{ObjectMap, object_in}
 use Rattle.narrow_model.specs.Script.{Event, Settle, Read}
 use Rattle.text_model.specs.Objects.{Object, after_append, object_after, version_zero}
 use Rattle.text_model.specs.Text.{submits, is_settle, settles, settled, line_text, text_after, text_of, read_text}

@@ -1,9 +1,9 @@
 // What a line prints.
 ghost use Rattle.std.specs.Prelude.{◌≡◌, IfOk, string_bytes};
-ghost use Rattle.object_fold.specs.Plain.{object_in};
+ghost use Rattle.narrow_fold.specs.Plain.{object_in};
 ghost use Rattle.text_model.specs.Text as model;
 
-use object_fold::PlainObjects;
+use narrow_fold::PlainObjects;
 use pond_base::{Label, OutOfMemory};
 use std::alloc::Global;
 

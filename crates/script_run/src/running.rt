@@ -3,7 +3,7 @@ ghost use Rattle.std.specs.Prelude.{◌≡◌, ◌≤◌, ◌+◌, ◌<◌, ◌^
 ghost use Rattle.std.specs.Io.KnownBytes.{Appends};
 ghost use Rattle.std.specs.List.{fold};
 ghost use Rattle.pond_base.specs.Outside.{Rose, AppendsPrefix};
-ghost use Rattle.object_fold.specs.Plain.{object_in};
+ghost use Rattle.narrow_fold.specs.Plain.{object_in};
 ghost use Rattle.text_model.specs.Objects.{after_append};
 ghost use Rattle.text_model.specs.Text.{text_of, submits};
 ghost use Rattle.narrow_text.specs.Lines.{event_of};
@@ -11,7 +11,7 @@ ghost use Rattle.narrow_text.specs.Lines.{event_of};
 use crate::printing::read_text;
 use block_names::Hash160;
 use narrow_text::{Line, Script};
-use object_fold::PlainObjects;
+use narrow_fold::PlainObjects;
 use pond_base::{OutOfMemory, Sink, write_whole};
 use std::alloc::Global;
 use std::thread::Threads;

@@ -1,6 +1,6 @@
 use Rattle.std.proofs.Common.{◌≡◌, ◌≤◌, ◌+◌, ℕ, List, map, take}
 use Rattle.std.specs.List.{fold}
-use Rattle.object_fold.specs.Plain.{object_in}
+use Rattle.narrow_fold.specs.Plain.{object_in}
 use Rattle.text_model.specs.Objects.{after_append}
 use Rattle.text_model.specs.Text.{submits}
 use Rattle.narrow_text.specs.Lines.{event_of}

@@ -1,0 +1,189 @@
+-- The objects after one more request.
+use Rattle.std.proofs.Common.{◌≡◌, ◌||◌, ℕ, ◌+◌, ◌≤◌, Bool, true, false, cond, List, [], ◌∷◌, ◌++◌, length, map, filter, drop, All, Result, Ok, Err, refl, ap, sym, ◌∙◌, subst, arith, length-append}
+use Rattle.std.proofs.lemmas.Bool.{false≢true}
+use Rattle.std.proofs.lemmas.List.Elements.{All-push}
+use Rattle.std.proofs.lemmas.Slice.Eq.{bytes_eq-Decides}
+use Rattle.std.specs.List.{list_any}
+use Rattle.std.specs.Str.{bytes_eq}
+use Rattle.std.specs.Prelude.{IsOk}
+use Rattle.block_names.specs.Held.{Held}
+use Rattle.guarded_update.specs.declared.request.Request.{Request}
+use Rattle.guarded_update.specs.declared.update.Action.{Action}
+use Rattle.object_model.specs.Updates.{Refusal, newest, outcome, act_all}
+use Rattle.object_model.specs.Folds.{Made, Effect, Makes, Refuses, Repeats, effect_of_outcome, same_number, with_effect, made_by, versions_of, versions_after}
+use Rattle.cow_tree.specs.Views.{TreeView}
+use Rattle.cow_tree.specs.Versions.{StandsFor, ForNext, IsTreeIn}
+use Rattle.object_fold.specs.Views.{ShelfView, ObjectsView}
+use Rattle.object_fold.specs.Shelves.{tree_of, trees_of, trees_in, later_at, newest_in, HasOneMore}
+use Rattle.object_fold.specs.Executed.{is_seen, in_order, AreAfter, AreKnown, SeesOneMore, Keeps, effect_after}
+use Rattle.object_fold.proofs.ShelfLemmas.{newest_is}
+
+-- ---- versions
+
+split_end : (xs : List (List ℕ)) (x : List ℕ) → xs ++ x ∷ [] ≡ newest (xs ++ x ∷ []) ∷ drop 1 (xs ++ x ∷ [])
+split_end [] x = refl
+split_end (y ∷ ys) x = refl
+
+-- each object has a newest version, over the older ones
+pub split : (label : List ℕ) (made : List Made) → versions_of label made ≡ newest (versions_of label made) ∷ drop 1 (versions_of label made)
+split label made = split_end (map (λ (m : Made). m.content) (filter (λ (m : Made). bytes_eq m.label label) made)) []
+
+-- one more version of one object
+one_more : (label own content : List ℕ) (made : List Made) → versions_of label (record { label = own; content = content } ∷ made) ≡ cond (bytes_eq own label) (content ∷ versions_of label made) (versions_of label made)
+one_more label own content made =
+    let rest : List Made = filter (λ (m : Made). bytes_eq m.label label) made in
+    elim (bytes_eq own label) as (λ b. map (λ (m : Made). m.content) (cond b (record { label = own; content = content } ∷ filter (λ (m : Made). bytes_eq m.label label) made) (filter (λ (m : Made). bytes_eq m.label label) made)) ++ [] ∷ []
+    ≡ cond b (content ∷ versions_of label made) (versions_of label made)) [ true ↦ refl | false ↦ refl ]
+
+-- there are no more versions of an object than were made, and version 0
+pub few_versions : (label : List ℕ) (made : List Made) → length (versions_of label made) ≤ length made + 1
+few_versions label [] = omega arith
+few_versions label (m ∷ made) =
+    let more = few_versions label made in
+    let cases : length (versions_of label (m ∷ made)) ≤ length (versions_of label made) + 1 =
+    subst (λ (xs : List (List ℕ)). length xs ≤ length (versions_of label made) + 1) (sym (one_more label m.label m.content made))
+    (elim (bytes_eq m.label label) as (λ b. length (cond b (m.content ∷ versions_of label made) (versions_of label made)) ≤ length (versions_of label made) + 1) [ true ↦ omega arith | false ↦ omega arith ]) in
+    omega arith
+
+-- the list in order of making is as long as what was made
+pub length-in_order : (made : List Made) → length (in_order made) ≡ length made
+length-in_order [] = refl
+length-in_order (m ∷ made) = omega (arith, length-append (in_order made) ((m.label, record { 0 = length (versions_of m.label made) }) ∷ []), length-in_order made)
+
+-- ---- trees
+
+-- the trees under each label, after one more
+pub more_trees : (old new : ShelfView) (label : List ℕ) (tree : TreeView) → HasOneMore old new label tree → (other : List ℕ) → trees_in new other ≡ cond (bytes_eq label other) (trees_in old other ++ tree ∷ []) (trees_in old other)
+more_trees old new label tree more other =
+    ap (λ t. t ∷ later_at new.later other) more.0
+    ∙ ap (λ ts. old.first ∷ ts) (more.1 other)
+    ∙ elim (bytes_eq label other) as (λ b. old.first ∷ cond b (later_at old.later other ++ tree ∷ []) (later_at old.later other) ≡ cond b (trees_in old other ++ tree ∷ []) (trees_in old other)) [ true ↦ refl | false ↦ refl ]
+
+-- trees that a book holds, with one more
+pub more_known : (h : List ℕ → List ℕ) (held : Held) (old new : ShelfView) (label : List ℕ) (tree : TreeView) → HasOneMore old new label tree
+    → ((other : List ℕ) → All (IsTreeIn h held) (trees_in old other)) → IsTreeIn h held tree → (other : List ℕ) → All (IsTreeIn h held) (trees_in new other)
+more_known h held old new label tree more all one other =
+    subst (All (IsTreeIn h held)) (sym (more_trees old new label tree more other))
+    (elim (bytes_eq label other) as (λ b. All (IsTreeIn h held) (cond b (trees_in old other ++ tree ∷ []) (trees_in old other))) [
+      | true ↦ All-push (IsTreeIn h held) (trees_in old other) tree (all other) one
+      | false ↦ all other
+    ])
+
+same_label : (a b : List ℕ) → bytes_eq a b ≡ true → a ≡ b
+same_label a b e = (bytes_eq-Decides a b).0 e
+
+-- the newest tree of an object stands for its versions
+pub newest_for : (h : List ℕ → List ℕ) (block : ℕ) (requests : List Request) (objects : ObjectsView) → AreAfter h block requests objects → (label : List ℕ)
+    → StandsFor h block (newest_in objects.trees label) (newest (versions_after h block label requests)) (drop 1 (versions_after h block label requests))
+newest_for h block requests objects after label =
+    newest_is h block objects.trees label (newest (versions_after h block label requests)) (drop 1 (versions_after h block label requests))
+    (after.trees label ∙ ap (trees_of h block) (split label (made_by h block requests)))
+
+-- its number is one less than the number of versions
+pub last_number : (h : List ℕ → List ℕ) (block : ℕ) (requests : List Request) (objects : ObjectsView) → AreAfter h block requests objects → (label : List ℕ)
+    → length (versions_after h block label requests) ≡ (newest_in objects.trees label).root.version.0 + 1
+last_number h block requests objects after label =
+    let number = ap (λ (t : TreeView). t.root.version.0) (newest_for h block requests objects after label) in
+    let more = ap length (split label (made_by h block requests)) in
+    omega (arith, number, more)
+
+-- its number is at most the number of versions that were made
+pub few_made : (h : List ℕ → List ℕ) (block : ℕ) (requests : List Request) (objects : ObjectsView) → AreAfter h block requests objects → (label : List ℕ)
+    → (newest_in objects.trees label).root.version.0 ≤ length objects.made
+few_made h block requests objects after label =
+    let count : length objects.made ≡ length (made_by h block requests) = ap length after.made ∙ length-in_order (made_by h block requests) in
+    omega (arith, few_versions label (made_by h block requests), last_number h block requests objects after label)
+
+-- the objects before any request
+pub after_nothing : (h : List ℕ → List ℕ) (block : ℕ) (first : TreeView) (objects : ObjectsView) → StandsFor h block first [] [] → objects ≡ record { trees = record { first = first; later = [] }; seen = []; made = [] } → AreAfter h block [] objects
+after_nothing h block first objects stands is = record {
+  trees = λ label. ap (λ (o : ObjectsView). trees_in o.trees label) is ∙ ap (λ t. t ∷ []) stands;
+  seen = λ request. ap (λ (o : ObjectsView). is_seen o.seen request) is;
+  made = ap (λ (o : ObjectsView). o.made) is;
+}
+
+-- a book that holds the tree of version 0 knows them
+pub known_nothing : (h : List ℕ → List ℕ) (held : Held) (block : ℕ) (first : TreeView) (objects : ObjectsView) → StandsFor h block first [] [] → IsTreeIn h held first → objects ≡ record { trees = record { first = first; later = [] }; seen = []; made = [] } → AreKnown h held objects
+known_nothing h held block first objects stands one is = record {
+  block = block;
+  requests = [];
+  after = after_nothing h block first objects stands is;
+  known = λ label. subst (λ (o : ObjectsView). All (IsTreeIn h held) (trees_in o.trees label)) (sym is) (All-push (IsTreeIn h held) [] first (λ k d l. absurd (omega arith)) one);
+}
+
+module _ (h : List ℕ → List ℕ) (block : ℕ) (request : Request) (earlier : List Request) (old : ObjectsView) (after : AreAfter h block earlier old) where
+  abbrev made : List Made
+  made = made_by h block earlier
+
+  abbrev versions : List (List ℕ)
+  versions = versions_after h block request.label earlier
+
+  -- ---- what the request does
+
+  pub effect_first : is_seen old.seen request ≡ false → (r : Result (List ℕ) Refusal) → outcome h block request.update.clauses versions ≡ r → effect_after h block request earlier ≡ effect_of_outcome r
+  effect_first new r is =
+      ap (λ b. cond b Repeats (effect_of_outcome (outcome h block request.update.clauses versions))) (sym (after.seen request) ∙ new) ∙ ap effect_of_outcome is
+
+  -- the newest tree stands for the versions
+  newest_stands : StandsFor h block (newest_in old.trees request.label) (newest versions) (drop 1 versions)
+  newest_stands = newest_for h block earlier old after request.label
+
+  -- ---- the objects after it
+
+  pub seen_more : (new : ObjectsView) → SeesOneMore old.seen new.seen request → (r : Request) → is_seen new.seen r ≡ list_any (same_number r) (request ∷ earlier)
+  seen_more new more r = more r ∙ ap (λ b. same_number r request || b) (after.seen r)
+
+  module _ (new : ObjectsView) (e : Effect) (is : effect_after h block request earlier ≡ e) (none : with_effect request.label e made ≡ made) (trees : new.trees ≡ old.trees) (same_made : new.made ≡ old.made)
+      (seen : (r : Request) → is_seen new.seen r ≡ list_any (same_number r) (request ∷ earlier)) where
+    pub after_none : AreAfter h block (request ∷ earlier) new
+    after_none =
+        let same : made_by h block (request ∷ earlier) ≡ made = ap (λ x. with_effect request.label x made) is ∙ none in
+        record {
+          trees = λ label. ap (λ t. trees_in t label) trees ∙ after.trees label ∙ ap (λ m. trees_of h block (versions_of label m)) (sym same);
+          seen = seen;
+          made = same_made ∙ after.made ∙ ap in_order (sym same);
+        }
+
+  pub after_refusal : (new : ObjectsView) (refusal : Refusal) → is_seen old.seen request ≡ false → outcome h block request.update.clauses versions ≡ Err refusal
+      → new.trees ≡ old.trees → new.made ≡ old.made → SeesOneMore old.seen new.seen request → AreAfter h block (request ∷ earlier) new
+  after_refusal new refusal first is trees same_made seen = after_none new (Refuses refusal) (effect_first first (Err refusal) is) refl trees same_made (seen_more new seen)
+
+  module _ (new : ObjectsView) (content : List ℕ) (tree : TreeView) (is : effect_after h block request earlier ≡ Makes content) (stands : StandsFor h block tree content versions) (keeps : Keeps old new request tree) where
+    trees_made : (label : List ℕ) (same : Bool) → (same ≡ true → request.label ≡ label)
+        → cond same (trees_in old.trees label ++ tree ∷ []) (trees_in old.trees label) ≡ trees_of h block (cond same (content ∷ versions_of label made) (versions_of label made))
+    trees_made label true is_label =
+        ap (λ ts. ts ++ tree ∷ []) (after.trees label)
+        ∙ ap (λ t. trees_of h block (versions_of label made) ++ t ∷ []) (stands ∙ ap (λ l. tree_of h block content (versions_of l made)) (is_label refl))
+    trees_made label false is_label = after.trees label
+
+    pub after_made : AreAfter h block (request ∷ earlier) new
+    after_made =
+        let now : made_by h block (request ∷ earlier) ≡ record { label = request.label; content = content } ∷ made = ap (λ x. with_effect request.label x made) is in
+        record {
+          trees = λ label.
+              more_trees old.trees new.trees request.label tree keeps.trees label
+              ∙ trees_made label (bytes_eq request.label label) (same_label request.label label)
+              ∙ ap (trees_of h block) (sym (one_more label request.label content made))
+              ∙ ap (λ m. trees_of h block (versions_of label m)) (sym now);
+          seen = seen_more new keeps.seen;
+          made = keeps.made
+              ∙ ap (λ xs. xs ++ (request.label, tree.root.version) ∷ []) after.made
+              ∙ ap (λ (t : TreeView). in_order made ++ (request.label, t.root.version) ∷ []) stands
+              ∙ ap in_order (sym now);
+        }
+
+  -- ---- the version that it makes
+
+  module _ (actions : List Action) (first : is_seen old.seen request ≡ false)
+      (decides : (content : List ℕ) (older : List (List ℕ)) → StandsFor h block (newest_in old.trees request.label) content older
+      → (outcome h block request.update.clauses (content ∷ older) ≡ act_all actions content) × IsOk (act_all actions content)) where
+    -- what holds of the next version of the newest tree holds of the one that the request makes
+    pub for_made : (P : ℕ → List ℕ → List (List ℕ) → Type 0) → ForNext h (newest_in old.trees request.label) actions P
+        → (content : List ℕ) × (effect_after h block request earlier ≡ Makes content) × P block content versions
+    for_made P next =
+        let d = decides (newest versions) (drop 1 versions) newest_stands in
+        let known : outcome h block request.update.clauses versions ≡ act_all actions (newest versions) = ap (outcome h block request.update.clauses) (split request.label made) ∙ d.0 in
+        elim (act_all actions (newest versions)) as (λ r. act_all actions (newest versions) ≡ r → IsOk r → (content : List ℕ) × (effect_after h block request earlier ≡ Makes content) × P block content versions) [
+          | Ok content ↦ λ is ok. (content, effect_first first (Ok content) (known ∙ is), subst (P block content) (sym (split request.label made)) (next block (newest versions) content (drop 1 versions) newest_stands is))
+          | Err refusal ↦ λ is ok. absurd (false≢true ok)
+        ] refl d.1

@@ -1,0 +1,90 @@
+-- The objects after executed requests. Lists of requests, and of the versions that they make, have the newest first. Throughout, h
+-- names byte strings, and block is how many bytes a whole leaf has.
+use Rattle.std.specs.Prelude.{◌≡◌, ◌==◌, ◌&&◌, ◌||◌, ℕ, Bool, List, [], ◌∷◌, ◌++◌, length, All}
+use Rattle.std.specs.List.{list_any}
+use Rattle.pond_base.specs.declared.numbers.ClientId.{ClientId}
+use Rattle.pond_base.specs.declared.numbers.Version.{Version}
+use Rattle.block_names.specs.Held.{Held}
+use Rattle.guarded_update.specs.declared.request.Request.{Request}
+use Rattle.object_model.specs.Trees.{version_name, version_strings}
+use Rattle.object_model.specs.Updates.{newest, NoClause, OutOfRange, TooLong}
+use Rattle.object_model.specs.Folds.{Made, Effect, Makes, Refuses, Repeats, effect, made_by, same_number, versions_of, versions_after}
+use Rattle.ring_message.specs.declared.outcome.Outcome.{Outcome}
+use Rattle.ring_message.specs.declared.outcome.Outcome.TheVariants as told
+use Rattle.cow_tree.specs.Versions.{IsTreeIn}
+use Rattle.cow_tree.specs.Namings.{most_namings}
+use Rattle.object_fold.specs.Views.{ObjectsView}
+use Rattle.object_fold.specs.Shelves.{trees_of, trees_in, HasOneMore}
+use Rattle.cow_tree.specs.Views.{TreeView}
+
+-- a request's client and number are among these
+abbrev pub is_seen : List (ClientId × ℕ) → Request → Bool
+is_seen seen request = list_any (λ (pair : ClientId × ℕ). request.client.0 == pair.0.0 && request.number == pair.1) seen
+
+-- the versions that were made in order of making, each by its label and number
+abbrev pub in_order : List Made → List (List ℕ × Version)
+in_order [] = []
+in_order (m ∷ made) = in_order made ++ (m.label, record { 0 = length (versions_of m.label made) }) ∷ []
+
+-- the objects are those after these requests: for each label the trees of its versions, whose request was executed, and what was made
+pub record AreAfter (h : List ℕ → List ℕ) (block : ℕ) (requests : List Request) (objects : ObjectsView) : Type 0 where
+  pub trees : (label : List ℕ) → trees_in objects.trees label ≡ trees_of h block (versions_after h block label requests)
+  pub seen : (request : Request) → is_seen objects.seen request ≡ list_any (same_number request) requests
+  pub made : objects.made ≡ in_order (made_by h block requests)
+
+-- the objects are those after some requests, and a book holds all strings of their versions
+pub record AreKnown (h : List ℕ → List ℕ) (held : Held) (objects : ObjectsView) : Type 0 where
+  pub block : ℕ
+  pub requests : List Request
+  pub after : AreAfter h block requests objects
+  pub known : (label : List ℕ) → All (IsTreeIn h held) (trees_in objects.trees label)
+
+-- a request of this client and number stands beside the others now
+abbrev pub SeesOneMore : List (ClientId × ℕ) → List (ClientId × ℕ) → Request → Type 0
+SeesOneMore old new request = (other : Request) → is_seen new other ≡ (same_number other request || is_seen old other)
+
+-- the tree of the version that a request made is kept
+pub record Keeps (old new : ObjectsView) (request : Request) (tree : TreeView) : Type 0 where
+  pub trees : HasOneMore old.trees new.trees request.label tree
+  pub seen : SeesOneMore old.seen new.seen request
+  pub made : new.made ≡ old.made ++ (request.label, tree.root.version) ∷ []
+
+-- whatever requests were executed, a fact holds of them
+abbrev pub ForAfter : (List ℕ → List ℕ) → ObjectsView → (ℕ → List Request → Type 0) → Type 0
+ForAfter h objects P = (block : ℕ) (requests : List Request) → AreAfter h block requests objects → P block requests
+
+-- what a request does after earlier ones
+abbrev pub effect_after : (List ℕ → List ℕ) → ℕ → Request → List Request → Effect
+effect_after h block request earlier = effect h block request earlier (made_by h block earlier)
+
+-- an effect on an object of these versions, as an outcome
+abbrev pub outcome_of : (List ℕ → List ℕ) → ℕ → Effect → List (List ℕ) → Outcome
+outcome_of h block (Makes content) versions = told.Made (record { 0 = length versions }) (version_name h block (content ∷ versions))
+outcome_of h block (Refuses NoClause) versions = told.NoClause
+outcome_of h block (Refuses OutOfRange) versions = told.OutOfRange
+outcome_of h block (Refuses TooLong) versions = told.TooLong
+outcome_of h block Repeats versions = told.Repeat
+
+-- the strings of the version that an effect makes
+abbrev pub strings_of_effect : (List ℕ → List ℕ) → ℕ → Effect → List (List ℕ) → List (List ℕ)
+strings_of_effect h block (Makes content) versions = version_strings h block content versions
+strings_of_effect h block (Refuses refusal) versions = []
+strings_of_effect h block Repeats versions = []
+
+-- the most strings that are named for it
+abbrev pub most_for_effect : ℕ → Effect → List (List ℕ) → ℕ
+most_for_effect block (Makes content) versions = most_namings block (newest versions) content
+most_for_effect block (Refuses refusal) versions = 0
+most_for_effect block Repeats versions = 0
+
+-- the outcome of a request after earlier ones
+abbrev pub outcome_after : (List ℕ → List ℕ) → ℕ → Request → List Request → Outcome
+outcome_after h block request earlier = outcome_of h block (effect_after h block request earlier) (versions_after h block request.label earlier)
+
+-- the strings that a request names after earlier ones
+abbrev pub strings_named : (List ℕ → List ℕ) → ℕ → Request → List Request → List (List ℕ)
+strings_named h block request earlier = strings_of_effect h block (effect_after h block request earlier) (versions_after h block request.label earlier)
+
+-- the most names that it has a book answer
+abbrev pub most_named : (List ℕ → List ℕ) → ℕ → Request → List Request → ℕ
+most_named h block request earlier = most_for_effect block (effect_after h block request earlier) (versions_after h block request.label earlier)
