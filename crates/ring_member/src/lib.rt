@@ -1,0 +1,4 @@
+//! One member of a ring.
+#![tactic(auto)]
+
+mod progress;
