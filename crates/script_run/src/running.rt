@@ -10,8 +10,8 @@ ghost use Rattle.narrow_text.specs.Lines.{event_of};
 
 use crate::printing::read_text;
 use block_names::Hash160;
-use narrow_text::{Line, Script};
 use narrow_fold::PlainObjects;
+use narrow_text::{Line, Script};
 use pond_base::{OutOfMemory, Sink, write_whole};
 use std::alloc::Global;
 use std::thread::Threads;
