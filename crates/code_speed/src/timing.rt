@@ -118,7 +118,10 @@ fn add_rows(rt: &impl Runtime, acc: &mut [u8], row: &[u8]) -> io::Result<()>
         add_plain_again(acc, row);
         plain = megabytes(&start, rt, row.len())?.max(plain);
     }
-    println!(rt; "MB/s of rows of {} bytes: lanes {lanes}, plain {plain}", row.len())
+    println!(rt;
+        "MB/s of rows of {} bytes: lanes {lanes}, plain {plain}",
+        row.len()
+    )
 }
 
 /// The fastest round of rebuilding with tables that are kept.
