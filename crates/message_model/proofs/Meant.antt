@@ -39,10 +39,10 @@ only_requests_are_read bytes r e =
       | false ↦ λ no f. absurd (cc)
     ] refl e
 
-request_true : (bytes : List ℕ) → IsRequestString bytes → is_request_string bytes ≡ true
+pub request_true : (bytes : List ℕ) → IsRequestString bytes → is_request_string bytes ≡ true
 request_true bytes is = ap is_request_string is.2 ∙ its_string is.0 is.1
 
-request_of : (bytes : List ℕ) → is_request_string bytes ≡ true → IsRequestString bytes
+pub request_of : (bytes : List ℕ) → is_request_string bytes ≡ true → IsRequestString bytes
 request_of bytes h = let parts = spelled_alone (request_at bytes) bytes h in (request_at bytes, parts.0, parts.1)
 
 outcome_seam : (o : Outcome) → OutcomeHasPlaces o → outcome_at (outcome_string o) ≡ o

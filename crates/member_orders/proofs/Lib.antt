@@ -1,0 +1,4 @@
+pub mod Going
+pub mod Owed
+pub mod Ranges
+pub mod Turns

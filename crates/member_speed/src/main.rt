@@ -1,0 +1,33 @@
+//! Four members of a ring with f = 1 are handed 1,024 requests, and all messages that these cause.
+//!
+//! With the argument `time` it says how long that takes, for more requests too. The tests of a member
+//! stand here too, so that the member's own proof is not made twice.
+#![tactic(auto)]
+
+mod feeding;
+#[cfg(test)]
+mod tests;
+mod timing;
+
+use feeding::feed;
+use std::{env, io};
+use timing::measure;
+
+fn main(rt: HostRuntime) -> io::Result<()> {
+    let alloc = rt.alloc();
+    let mut timed = false;
+    for arg in env::args(&rt)?.skip(1) {
+        timed = timed || arg.as_str() == "time";
+    }
+    let Some(fed) = feed(alloc, 1_024) else {
+        return Err(io::Error::from(io::ErrorKind::OutOfMemory));
+    };
+    println!(rt;
+        "requests {} deliveries {} executed {} kept slots {}",
+        fed.requests, fed.deliveries, fed.executed, fed.kept
+    )?;
+    if timed {
+        measure(&rt, alloc)?;
+    }
+    Ok(())
+}

@@ -1,0 +1,12 @@
+pub mod Counted
+pub mod Deciding
+pub mod Executing
+pub mod Fresh
+pub mod Heard
+pub mod Rising
+pub mod Letters
+pub mod Owning
+pub mod Quiets
+pub mod Sent
+pub mod Telling
+pub mod Whole

@@ -1,0 +1,4 @@
+pub mod Members
+pub mod Standing
+pub mod Told
+pub mod Views
