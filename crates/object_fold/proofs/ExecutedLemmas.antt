@@ -1,5 +1,5 @@
 -- The objects after one more request.
-use Rattle.std.proofs.Common.{◌≡◌, ◌||◌, ℕ, ◌+◌, ◌≤◌, Bool, true, false, cond, List, [], ◌∷◌, ◌++◌, length, map, filter, drop, All, Result, Ok, Err, refl, ap, sym, ◌∙◌, subst, arith, length-append}
+use Rattle.std.proofs.Common.{◌≡◌, ◌||◌, ℕ, suc, ◌+◌, ◌≤◌, Bool, true, false, cond, List, [], ◌∷◌, ◌++◌, length, map, filter, drop, All, Result, Ok, Err, refl, ap, sym, ◌∙◌, subst, arith, length-append}
 use Rattle.std.proofs.lemmas.Bool.{false≢true}
 use Rattle.std.proofs.lemmas.List.Elements.{All-push}
 use Rattle.std.proofs.lemmas.Slice.Eq.{bytes_eq-Decides}
@@ -15,7 +15,7 @@ use Rattle.cow_tree.specs.Views.{TreeView}
 use Rattle.cow_tree.specs.Versions.{StandsFor, ForNext, IsTreeIn}
 use Rattle.object_fold.specs.Views.{ShelfView, ObjectsView}
 use Rattle.object_fold.specs.Shelves.{tree_of, trees_of, trees_in, later_at, newest_in, HasOneMore}
-use Rattle.object_fold.specs.Executed.{is_seen, in_order, AreAfter, AreKnown, SeesOneMore, Keeps, effect_after}
+use Rattle.object_fold.specs.Executed.{is_seen, in_order, AreAfter, AreKnown, SeesOneMore, KeepsTree, effect_after}
 use Rattle.object_fold.proofs.ShelfLemmas.{newest_is}
 
 -- ---- versions
@@ -29,7 +29,7 @@ pub split : (label : List ℕ) (made : List Made) → versions_of label made ≡
 split label made = split_end (map (λ (m : Made). m.content) (filter (λ (m : Made). bytes_eq m.label label) made)) []
 
 -- one more version of one object
-one_more : (label own content : List ℕ) (made : List Made) → versions_of label (record { label = own; content = content } ∷ made) ≡ cond (bytes_eq own label) (content ∷ versions_of label made) (versions_of label made)
+pub one_more : (label own content : List ℕ) (made : List Made) → versions_of label (record { label = own; content = content } ∷ made) ≡ cond (bytes_eq own label) (content ∷ versions_of label made) (versions_of label made)
 one_more label own content made =
     let rest : List Made = filter (λ (m : Made). bytes_eq m.label label) made in
     elim (bytes_eq own label) as (λ b. map (λ (m : Made). m.content) (cond b (record { label = own; content = content } ∷ filter (λ (m : Made). bytes_eq m.label label) made) (filter (λ (m : Made). bytes_eq m.label label) made)) ++ [] ∷ []
@@ -94,6 +94,19 @@ few_made h block requests objects after label =
     let count : length objects.made ≡ length (made_by h block requests) = ap length after.made ∙ length-in_order (made_by h block requests) in
     omega (arith, few_versions label (made_by h block requests), last_number h block requests objects after label)
 
+few_more : (label : List ℕ) (e : Effect) (made : List Made) (n : ℕ) → length made ≤ n → length (with_effect label e made) ≤ suc n
+few_more label (Makes content) made n few = omega arith
+few_more label (Refuses refusal) made n few = omega arith
+few_more label Repeats made n few = omega arith
+
+few_of : (h : List ℕ → List ℕ) (block : ℕ) (requests : List Request) → length (made_by h block requests) ≤ length requests
+few_of h block [] = omega arith
+few_of h block (request ∷ earlier) = few_more request.label (effect_after h block request earlier) (made_by h block earlier) (length earlier) (few_of h block earlier)
+
+-- no more versions are made than requests were executed
+pub few_made_by : (h : List ℕ → List ℕ) (block : ℕ) (requests : List Request) (objects : ObjectsView) → AreAfter h block requests objects → length objects.made ≤ length requests
+few_made_by h block requests objects after = omega (arith, ap length after.made, length-in_order (made_by h block requests), few_of h block requests)
+
 -- the objects before any request
 pub after_nothing : (h : List ℕ → List ℕ) (block : ℕ) (first : TreeView) (objects : ObjectsView) → StandsFor h block first [] [] → objects ≡ record { trees = record { first = first; later = [] }; seen = []; made = [] } → AreAfter h block [] objects
 after_nothing h block first objects stands is = record {
@@ -148,7 +161,7 @@ module _ (h : List ℕ → List ℕ) (block : ℕ) (request : Request) (earlier 
       → new.trees ≡ old.trees → new.made ≡ old.made → SeesOneMore old.seen new.seen request → AreAfter h block (request ∷ earlier) new
   after_refusal new refusal first is trees same_made seen = after_none new (Refuses refusal) (effect_first first (Err refusal) is) refl trees same_made (seen_more new seen)
 
-  module _ (new : ObjectsView) (content : List ℕ) (tree : TreeView) (is : effect_after h block request earlier ≡ Makes content) (stands : StandsFor h block tree content versions) (keeps : Keeps old new request tree) where
+  module _ (new : ObjectsView) (content : List ℕ) (tree : TreeView) (is : effect_after h block request earlier ≡ Makes content) (stands : StandsFor h block tree content versions) (keeps : KeepsTree old new request tree) where
     trees_made : (label : List ℕ) (same : Bool) → (same ≡ true → request.label ≡ label)
         → cond same (trees_in old.trees label ++ tree ∷ []) (trees_in old.trees label) ≡ trees_of h block (cond same (content ∷ versions_of label made) (versions_of label made))
     trees_made label true is_label =

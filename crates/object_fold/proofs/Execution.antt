@@ -16,7 +16,7 @@ use Rattle.cow_tree.specs.Versions.{StandsFor, ForNext, IsTreeIn, content_of}
 use Rattle.cow_tree.proofs.Standing.{stays, stood_for}
 use Rattle.object_fold.specs.Views.{ShelfView, ObjectsView}
 use Rattle.object_fold.specs.Shelves.{trees_in, later_at, last_tree, newest_in}
-use Rattle.object_fold.specs.Executed.{is_seen, AreAfter, AreKnown, SeesOneMore, Keeps, effect_after, outcome_of, outcome_after, strings_of_effect, strings_named, most_for_effect, most_named}
+use Rattle.object_fold.specs.Executed.{is_seen, AreAfter, AreKnown, SeesOneMore, KeepsTree, effect_after, outcome_of, outcome_after, strings_of_effect, strings_named, most_for_effect, most_named}
 use Rattle.object_fold.proofs.ExecutedLemmas.{split, newest_for, few_made, effect_first, after_refusal, after_made, more_known, for_made}
 
 -- what holds of each tree holds of the last
@@ -117,12 +117,12 @@ module _ (h : List ℕ → List ℕ) (old inside : ObjectsView) (view : inside �
             let m = next_made (λ block content older. StandsFor h block tree content older) stands block earlier after in
             ap (λ (t : TreeView). told.Made t.root.version t.name) m.2 ∙ sym (ap (λ e. outcome_of h block e (versions_after h block request.label earlier)) m.1)
 
-        pub made_after : (new : ObjectsView) → Keeps old new request tree → (block : ℕ) (earlier : List Request) → AreAfter h block earlier old → AreAfter h block (request ∷ earlier) new
+        pub made_after : (new : ObjectsView) → KeepsTree old new request tree → (block : ℕ) (earlier : List Request) → AreAfter h block earlier old → AreAfter h block (request ∷ earlier) new
         made_after new keeps block earlier after =
             let m = next_made (λ block content older. StandsFor h block tree content older) stands block earlier after in
             after_made h block request earlier old after new m.0 tree m.1 m.2 keeps
 
-        pub made_known : (held now : Held) (new : ObjectsView) → Keeps old new request tree → IsTreeIn h now tree
+        pub made_known : (held now : Held) (new : ObjectsView) → KeepsTree old new request tree → IsTreeIn h now tree
             → ForNext h two actions (λ block content older. Grew h held (Contains (version_strings h block content older)) now) → AreKnown h held old → AreKnown h now new
         made_known held now new keeps one grew known =
             let g = next_strings (λ strings. Grew h held (Contains strings) now) grew known.block known.requests known.after in

@@ -1,6 +1,7 @@
 mod ChoiceLemmas
-mod ExecutedLemmas
+pub mod ExecutedLemmas
 mod Execution
 mod Lengths
 mod SeenLemmas
 mod ShelfLemmas
+pub mod Kept

@@ -44,7 +44,7 @@ abbrev pub SeesOneMore : List (ClientId × ℕ) → List (ClientId × ℕ) → R
 SeesOneMore old new request = (other : Request) → is_seen new other ≡ (same_number other request || is_seen old other)
 
 -- the tree of the version that a request made is kept
-pub record Keeps (old new : ObjectsView) (request : Request) (tree : TreeView) : Type 0 where
+pub record KeepsTree (old new : ObjectsView) (request : Request) (tree : TreeView) : Type 0 where
   pub trees : HasOneMore old.trees new.trees request.label tree
   pub seen : SeesOneMore old.seen new.seen request
   pub made : new.made ≡ old.made ++ (request.label, tree.root.version) ∷ []

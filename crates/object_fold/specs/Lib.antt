@@ -1,4 +1,5 @@
 pub mod Choice
 pub mod Executed
+pub mod Laws
 pub mod Shelves
 pub mod Views

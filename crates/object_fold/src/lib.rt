@@ -11,11 +11,13 @@
 mod choice;
 mod decision;
 mod fate;
+mod laws;
 mod objects;
 mod seen;
 mod shelf;
 #[cfg(test)]
 mod tests;
 
+pub use laws::{made_strings_are_held, objects_stay_known, versions_are_few};
 pub use objects::Objects;
 pub use ring_message::Outcome;

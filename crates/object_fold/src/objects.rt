@@ -8,7 +8,7 @@ ghost use Rattle.object_model.specs.Folds.{Refuses, made_by, versions_after};
 ghost use Rattle.cow_tree.specs.Versions.{IsTreeIn};
 ghost use Rattle.object_fold.specs.Shelves.{tree_at};
 ghost use Rattle.object_fold.specs.Choice.{refusal_of};
-ghost use Rattle.object_fold.specs.Executed.{AreAfter, AreKnown, ForAfter, Keeps, in_order, outcome_of, outcome_after, strings_named, most_named};
+ghost use Rattle.object_fold.specs.Executed.{AreAfter, AreKnown, ForAfter, KeepsTree, in_order, outcome_of, outcome_after, strings_named, most_named};
 
 use crate::decision::decide;
 use crate::fate::Refused;
@@ -133,9 +133,9 @@ impl Objects {
         self.made.as_slice()
     }
 
-    // Keeps the version that a request made.
+    // KeepsTree the version that a request made.
     fn keep(&mut self, request: &Request, tree: Tree) -> Result<(), OutOfMemory>
-        ensures { OnOk result (Keeps self.old self.new request.now tree) }
+        ensures { OnOk result (KeepsTree self.old self.new request.now tree) }
     {
         let version = tree.root().version;
         self.trees.add(&request.label, tree)?;

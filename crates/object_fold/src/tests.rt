@@ -225,5 +225,7 @@ fn full_object(rt: HostRuntime) -> Result<(), Fail> {
     assert_eq!(rt; outcomes.get(15), Some(&last));
     assert_eq!(rt; outcomes.last(), Some(&Outcome::TooLong));
     assert_eq!(rt; objects.made().len(), 16);
+    objects_stay_known();
+    versions_are_few();
     Ok(())
 }

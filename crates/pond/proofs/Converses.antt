@@ -1,9 +1,14 @@
 -- What each answer says leaves no other answer in its place.
-use Rattle.std.proofs.Common.{◌≡◌, ℕ, List, Option, None, Some, IfSome, inl, inr, arith, refl, sym, ◌∙◌}
-use Rattle.narrow_model.specs.Script.{Event}
+use Rattle.std.proofs.Common.{◌≡◌, ℕ, List, Option, None, Some, IfSome, Result, Ok, Err, reverse, inl, inr, arith, refl, sym, subst, ap, ◌∙◌}
+use Rattle.sha1.specs.Sha1.{sha1}
+use Rattle.script_terms.specs.declared.script.Script.{Script}
+use Rattle.script_grammar.specs.Script.{Refusal}
+use Rattle.text_model.specs.Clashes.{NoClash, IsFirstClash}
+use Rattle.text_model.specs.Named.{named}
 use Rattle.pond.specs.declared.status.Status.{Status}
-use Rattle.pond.specs.declared.status.Status.TheVariants.{Done, Usage, Refused, ReadFault, WriteFault, Memory, TooLarge}
-use Rattle.pond.specs.Exactly.{UsageWhere, RefusedWhere, TooLargeWhere, CompleteWhere}
+use Rattle.pond.specs.declared.status.Status.TheVariants.{Done, Usage, Refused, ReadFault, WriteFault, Clash, Memory, TooLarge}
+use Rattle.pond.proofs.Clashing.{clash_or_none}
+use Rattle.pond.specs.Exactly.{UsageWhere, RefusedWhere, TooLargeWhere, CompleteWhere, ClashWhere}
 use Rattle.pond.specs.Table.{Says, Outside}
 
 -- a fact of bytes that are told, from another
@@ -15,9 +20,16 @@ always : (known : Option (List ℕ)) (Q : List ℕ → Type 0) → ((bytes : Lis
 always None Q f = tt
 always (Some bytes) Q f = f bytes
 
--- no bytes are a script and none
-script_or_none : (script : Option (List Event)) (events : List Event) → script ≡ Some events → script ≡ None → ⊥
-script_or_none script events some none = let bad : None ≡ Some events = sym none ∙ some in absurd (cc)
+-- no bytes are a script and refused
+script_or_refusal : (read : Result Script Refusal) (script : Script) (refusal : Refusal) → read ≡ Ok script → read ≡ Err refusal → ⊥
+script_or_refusal read script refusal some none = let bad : ◌≡◌ {A = Result Script Refusal} (Ok script) (Err refusal) = sym some ∙ none in absurd (cc)
+
+-- bytes are one script
+one_script : (read : Result Script Refusal) (a b : Script) → read ≡ Ok a → read ≡ Ok b → a ≡ b
+one_script read a b left right = let same : ◌≡◌ {A = Result Script Refusal} (Ok a) (Ok b) = sym left ∙ right in cc
+
+one_refusal : (read : Result Script Refusal) (a b : Refusal) → read ≡ Err a → read ≡ Err b → a ≡ b
+one_refusal read a b left right = let same : ◌≡◌ {A = Result Script Refusal} (Err a) (Err b) = sym left ∙ right in cc
 
 pub usage_where : (status : Status) (o : Outside) → Says status o → UsageWhere status o
 usage_where Done o says other = absurd (other says.run)
@@ -25,17 +37,20 @@ usage_where Usage o says other = refl
 usage_where (Refused line cause) o says other = absurd (other says.run)
 usage_where ReadFault o says other = absurd (other says.run)
 usage_where WriteFault o says other = absurd (other says.run)
+usage_where (Clash line old new) o says other = absurd (other says.run)
 usage_where Memory o says other = absurd (other says.run)
 usage_where TooLarge o says other = absurd (other says.run)
 
 pub refused_where : (status : Status) (o : Outside) → Says status o → RefusedWhere status o
-refused_where Done o says run = told o.source.before _ _ says.read.bytes (λ bytes p small none. absurd (script_or_none _ p.1.0 p.1.1 none))
+refused_where Done o says run = told o.source.before _ _ says.read.bytes (λ bytes p refusal small none. absurd (script_or_refusal _ p.1.0 refusal p.1.1 none))
 refused_where Usage o says run = absurd (says.other run)
-refused_where (Refused line cause) o says run = always o.source.before _ (λ bytes small none. inl (rw (says.first, says.verb) refl))
-refused_where ReadFault o says run = always o.source.before _ (λ bytes small none. inr (inl refl))
-refused_where WriteFault o says run = told o.source.before _ _ says.read.bytes (λ bytes p small none. absurd (script_or_none _ p.1.0 p.1.1 none))
-refused_where Memory o says run = always o.source.before _ (λ bytes small none. inr (inr refl))
-refused_where TooLarge o says run = told o.source.before _ _ says.large (λ bytes large small none. absurd (omega arith))
+refused_where (Refused line cause) o says run = told o.source.before _ _ says.read.bytes (λ bytes p refusal small none.
+    inl (ap (λ (r : Refusal). Refused r.line r.cause) (one_refusal _ (record { line = line; cause = cause }) refusal p.1 none)))
+refused_where ReadFault o says run = always o.source.before _ (λ bytes refusal small none. inr (inl refl))
+refused_where WriteFault o says run = told o.source.before _ _ says.read.bytes (λ bytes p refusal small none. absurd (script_or_refusal _ p.1.0 refusal p.1.1 none))
+refused_where (Clash line old new) o says run = told o.source.before _ _ says.read.bytes (λ bytes p refusal small none. absurd (script_or_refusal _ p.1.0 refusal p.1.1 none))
+refused_where Memory o says run = always o.source.before _ (λ bytes refusal small none. inr (inr refl))
+refused_where TooLarge o says run = told o.source.before _ _ says.large (λ bytes large refusal small none. absurd (omega arith))
 
 pub too_large_where : (status : Status) (o : Outside) → Says status o → TooLargeWhere status o
 too_large_where Done o says run = told o.source.before _ _ says.read.bytes (λ bytes p large. absurd (omega (arith, p.0)))
@@ -43,14 +58,28 @@ too_large_where Usage o says run = absurd (says.other run)
 too_large_where (Refused line cause) o says run = told o.source.before _ _ says.read.bytes (λ bytes p large. absurd (omega (arith, p.0)))
 too_large_where ReadFault o says run = always o.source.before _ (λ bytes large. inr (inl refl))
 too_large_where WriteFault o says run = told o.source.before _ _ says.read.bytes (λ bytes p large. absurd (omega (arith, p.0)))
+too_large_where (Clash line old new) o says run = told o.source.before _ _ says.read.bytes (λ bytes p large. absurd (omega (arith, p.0)))
 too_large_where Memory o says run = always o.source.before _ (λ bytes large. inr (inr refl))
 too_large_where TooLarge o says run = always o.source.before _ (λ bytes large. inl refl)
 
 pub complete_where : (status : Status) (o : Outside) → Says status o → CompleteWhere status o
-complete_where Done o says run reads writes = always o.source.before _ (λ bytes script small is. inl refl)
+complete_where Done o says run reads writes = always o.source.before _ (λ bytes script small is clear. inl refl)
 complete_where Usage o says run reads writes = absurd (says.other run)
-complete_where (Refused line cause) o says run reads writes = told o.source.before _ _ says.read.bytes (λ bytes p script small is. absurd (script_or_none _ script is p.1))
+complete_where (Refused line cause) o says run reads writes = told o.source.before _ _ says.read.bytes (λ bytes p script small is clear. absurd (script_or_refusal _ script (record { line = line; cause = cause }) is p.1))
 complete_where ReadFault o says run reads writes = absurd (reads says.failed)
 complete_where WriteFault o says run reads writes = absurd (writes says.failed)
-complete_where Memory o says run reads writes = always o.source.before _ (λ bytes script small is. inr refl)
-complete_where TooLarge o says run reads writes = told o.source.before _ _ says.large (λ bytes large script small is. absurd (omega arith))
+complete_where (Clash line old new) o says run reads writes = told o.source.before _ _ says.read.bytes (λ bytes p script small is clear.
+    absurd (clash_or_none sha1 script line old new (subst (λ s. IsFirstClash sha1 s line old new) (one_script _ p.1.0 script p.1.1 is) p.1.3) clear))
+complete_where Memory o says run reads writes = always o.source.before _ (λ bytes script small is clear. inr refl)
+complete_where TooLarge o says run reads writes = told o.source.before _ _ says.large (λ bytes large script small is clear. absurd (omega arith))
+
+pub clash_where : (status : Status) (o : Outside) → Says status o → ClashWhere status o
+clash_where Done o says run reads writes = told o.source.before _ _ says.read.bytes (λ bytes p script small is clashed.
+    absurd (clashed (subst (λ s. NoClash sha1 (named sha1 s (reverse s.lines))) (one_script _ p.1.0 script p.1.1 is) p.1.3)))
+clash_where Usage o says run reads writes = absurd (says.other run)
+clash_where (Refused line cause) o says run reads writes = told o.source.before _ _ says.read.bytes (λ bytes p script small is clashed. absurd (script_or_refusal _ script (record { line = line; cause = cause }) is p.1))
+clash_where ReadFault o says run reads writes = absurd (reads says.failed)
+clash_where WriteFault o says run reads writes = absurd (writes says.failed)
+clash_where (Clash line old new) o says run reads writes = always o.source.before _ (λ bytes script small is clashed. inl tt)
+clash_where Memory o says run reads writes = always o.source.before _ (λ bytes script small is clashed. inr refl)
+clash_where TooLarge o says run reads writes = told o.source.before _ _ says.large (λ bytes large script small is clashed. absurd (omega arith))

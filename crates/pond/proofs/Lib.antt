@@ -1,2 +1,3 @@
 mod Converses
 mod Said
+mod Clashing

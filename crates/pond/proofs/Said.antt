@@ -1,11 +1,11 @@
 -- The answers of a run of a text, as answers of the program.
-use Rattle.std.proofs.Common.{◌≡◌, ◌++◌, ℕ, List, Option, None, Some, IfSome, sym, ◌∙◌, ap, subst, append-nil, inr}
+use Rattle.std.proofs.Common.{◌≡◌, ◌++◌, ℕ, List, Option, None, Some, Err, IfSome, sym, ◌∙◌, ap, subst, append-nil, inr}
 use Rattle.std.specs.Io.KnownBytes.{Consumes, IsAtEnd}
-use Rattle.narrow_model.specs.Script.{script_of}
+use Rattle.script_grammar.specs.Script.{script_of}
 use Rattle.pond.specs.declared.status.Status.{Status}
-use Rattle.pond.specs.declared.status.Status.TheVariants.{Done, Usage, Refused, ReadFault, WriteFault, Memory, TooLarge}
+use Rattle.pond.specs.declared.status.Status.TheVariants.{Done, Usage, Refused, ReadFault, WriteFault, Clash, Memory, TooLarge}
 use Rattle.pond.specs.Runs.{RunSays}
-use Rattle.pond.specs.Table.{Says, Seen, Outside, IsRun, IsSound, IsSmall, ReadsAll, TakesText, TakesPrefix, TakesAtMost}
+use Rattle.pond.specs.Table.{Says, Seen, Outside, IsRun, IsSound, IsSmall, ReadsAll, TakesText, TakesUntilClash, TakesPrefix, TakesAtMost}
 
 -- these bytes are all that a source had, where it tells them
 abbrev pub IsAll : Option (List ℕ) → List ℕ → Type 0
@@ -40,12 +40,11 @@ run_says Done o given run read says = record { run = run; read = reads_all o.sou
 run_says Usage o given run read says = absurd says
 run_says (Refused line cause) o given run read says = record {
   run = run;
-  read = reads_all o.source given (λ bytes. script_of bytes ≡ None) read says.none;
-  first = says.first;
-  verb = says.verb;
+  read = reads_all o.source given (λ bytes. script_of bytes ≡ Err (record { line = line; cause = cause })) read says.refused;
   unwritten = says.unwritten;
 }
 run_says ReadFault o given run read says = absurd says
 run_says WriteFault o given run read says = record { run = run; read = reads_all o.source given (TakesPrefix o.sink) read says.0; failed = says.1 }
+run_says (Clash line old new) o given run read says = record { run = run; read = reads_all o.source given (TakesUntilClash o.sink line old new) read says.0; sound = says.1 }
 run_says Memory o given run read says = record { run = run; written = inr (reads_all o.source given (TakesAtMost o.sink) read says) }
 run_says TooLarge o given run read says = absurd says

@@ -1,14 +1,17 @@
 -- The table of statuses: what each answer of the program says of its words, its source and its sink.
-use Rattle.std.specs.Prelude.{◌≡◌, ◌≤◌, ◌<◌, ◌⊎◌, ℕ, List, [], ◌∷◌, codes, length, Option, None, Some, IfSome, MatchOption, Bool, false, IsTrue}
+use Rattle.std.specs.Prelude.{◌≡◌, ◌≤◌, ◌<◌, ◌⊎◌, ℕ, List, [], ◌∷◌, codes, length, reverse, Option, IfSome, Ok, Err, MatchResult, Bool, false, IsTrue}
 use Rattle.std.specs.Str.{bytes_eq}
 use Rattle.std.specs.Io.KnownBytes.{Appends, IsAtEnd}
 use Rattle.pond_base.specs.Outside.{Rose, AppendsPrefix}
-use Rattle.narrow_model.specs.Script.{Event, script_of}
+use Rattle.sha1.specs.Sha1.{sha1}
+use Rattle.script_terms.specs.declared.cause.Cause.{Cause}
+use Rattle.script_terms.specs.declared.script.Script.{Script}
+use Rattle.script_grammar.specs.Script.{script_of}
+use Rattle.text_model.specs.Clashes.{NoClash, IsFirstClash}
+use Rattle.text_model.specs.Named.{named}
 use Rattle.text_model.specs.Text.{text_of}
-use Rattle.narrow_text.specs.declared.cause.Cause.{Cause}
-use Rattle.narrow_text.specs.declared.cause.Cause.TheVariants.{Verb}
 use Rattle.pond.specs.declared.status.Status.{Status}
-use Rattle.pond.specs.declared.status.Status.TheVariants.{Done, Usage, Refused, ReadFault, WriteFault, Memory, TooLarge}
+use Rattle.pond.specs.declared.status.Status.TheVariants.{Done, Usage, Refused, ReadFault, WriteFault, Clash, Memory, TooLarge}
 
 -- the most bytes of a script
 abbrev pub most_bytes : ℕ
@@ -49,17 +52,23 @@ Fails seen = Rose seen.faults_before seen.faults_after
 abbrev pub IsSound : Seen → Type 0
 IsSound seen = seen.faults_after ≡ seen.faults_before
 
--- the sink took the whole text of the script that some bytes are
+-- the sink took the whole text of the script that some bytes are, no two of whose strings clash
 abbrev pub TakesText : Seen → List ℕ → Type 0
-TakesText sink bytes = (script : List Event) × (script_of bytes ≡ Some script) × Appends sink.before sink.after (text_of script)
+TakesText sink bytes =
+    (script : Script) × (script_of bytes ≡ Ok script) × Appends sink.before sink.after (text_of sha1 script) × NoClash sha1 (named sha1 script (reverse script.lines))
+
+-- the sink took the whole text of a script that ends at a clash of two strings
+abbrev pub TakesUntilClash : Seen → ℕ → List ℕ → List ℕ → List ℕ → Type 0
+TakesUntilClash sink line old new bytes =
+    (script : Script) × (script_of bytes ≡ Ok script) × Appends sink.before sink.after (text_of sha1 script) × IsFirstClash sha1 script line old new
 
 -- the sink took a prefix of it
 abbrev pub TakesPrefix : Seen → List ℕ → Type 0
-TakesPrefix sink bytes = (script : List Event) × (script_of bytes ≡ Some script) × AppendsPrefix sink.before sink.after (text_of script)
+TakesPrefix sink bytes = (script : Script) × (script_of bytes ≡ Ok script) × AppendsPrefix sink.before sink.after (text_of sha1 script)
 
 -- the sink took a prefix of it, and was not called where the bytes are no script
 abbrev pub TakesAtMost : Seen → List ℕ → Type 0
-TakesAtMost sink bytes = MatchOption (script_of bytes) (IsUnused sink) (λ script. AppendsPrefix sink.before sink.after (text_of script))
+TakesAtMost sink bytes = MatchResult (script_of bytes) (λ script. AppendsPrefix sink.before sink.after (text_of sha1 script)) (λ refusal. IsUnused sink)
 
 -- the bytes are not too many for a script
 abbrev pub IsSmall : List ℕ → Type 0
@@ -83,12 +92,10 @@ pub record IsUsage (o : Outside) : Type 0 where
   pub unread : IsUnused o.source
   pub unwritten : IsUnused o.sink
 
--- the source gave bytes that are no script
+-- the source gave bytes that are no script: this is the first line with a fault, and its cause
 pub record IsRefused (o : Outside) (line : ℕ) (cause : Cause) : Type 0 where
   pub run : IsRun o.words
-  pub read : ReadsAll o.source (λ bytes. script_of bytes ≡ None)
-  pub first : line ≡ 1
-  pub verb : cause ≡ Verb
+  pub read : ReadsAll o.source (λ bytes. script_of bytes ≡ Err (record { line = line; cause = cause }))
   pub unwritten : IsUnused o.sink
 
 -- the source failed
@@ -102,6 +109,12 @@ pub record IsWriteFault (o : Outside) : Type 0 where
   pub run : IsRun o.words
   pub read : ReadsAll o.source (TakesPrefix o.sink)
   pub failed : Fails o.sink
+
+-- the script was run up to the first clash of two strings, and its whole text was taken
+pub record IsClashed (o : Outside) (line : ℕ) (old new : List ℕ) : Type 0 where
+  pub run : IsRun o.words
+  pub read : ReadsAll o.source (TakesUntilClash o.sink line old new)
+  pub sound : IsSound o.sink
 
 -- memory ran out: before anything was written, or while the script was run
 pub record IsMemory (o : Outside) : Type 0 where
@@ -121,5 +134,6 @@ Says Usage o = IsUsage o
 Says (Refused line cause) o = IsRefused o line cause
 Says ReadFault o = IsReadFault o
 Says WriteFault o = IsWriteFault o
+Says (Clash line old new) o = IsClashed o line old new
 Says Memory o = IsMemory o
 Says TooLarge o = IsTooLarge o

@@ -23,8 +23,9 @@ const USAGE: &str = "pond: usage: pond run";
 
 fn main(rt: HostRuntime) -> ExitCode {
     let status = run_words(&rt);
+    let exit = status.exit();
     let _ = tell(&rt, status);
-    ExitCode::from(status.exit())
+    ExitCode::from(exit)
 }
 
 // What the program does with its words.
@@ -51,6 +52,6 @@ fn tell(rt: &impl Eprint, status: Status) -> io::Result<()> {
         Status::Refused { line, cause } => eprintln!(rt; "pond: line {line}: {cause}"),
         Status::ReadFault => rt.eprintln("pond: read fault"),
         Status::TooLarge => rt.eprintln("pond: script too large"),
-        Status::Done | Status::WriteFault | Status::Memory => Ok(()),
+        Status::Done | Status::WriteFault | Status::Clash { .. } | Status::Memory => Ok(()),
     }
 }

@@ -1,10 +1,11 @@
 // How a call of the program ends.
 ghost use Rattle.std.specs.Prelude.{◌≡◌};
 
-use narrow_text::Cause;
+use bytes::Bytes;
+use script_text::Cause;
 
 /// How a call of the program ends.
-#[derive(Clone, Copy, Debug, PartialEq, Eq)]
+#[derive(Debug, Drop, PartialEq, Eq)]
 pub enum Status {
     /// The whole text of the script was written.
     Done,
@@ -16,6 +17,9 @@ pub enum Status {
     ReadFault,
     /// The sink failed. A prefix of the text was written.
     WriteFault,
+    /// Up to this line two different strings of one name were named, and before it none. The whole text
+    /// was written, which ends with the line that says so.
+    Clash { line: u32, old: Bytes, new: Bytes },
     /// Memory ran out. A prefix of the text was written, and nothing where there is no script.
     Memory,
     /// The source gave more than 1,048,576 bytes. Nothing was written.
@@ -35,6 +39,7 @@ impl Status {
             Status::Refused { .. } => 3,
             Status::ReadFault => 4,
             Status::WriteFault => 5,
+            Status::Clash { .. } => 6,
             Status::Memory => 7,
             Status::TooLarge => 8,
         }

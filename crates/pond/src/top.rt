@@ -7,10 +7,10 @@ ghost use Rattle.pond.specs.Table as table;
 
 use crate::status::Status;
 use block_names::Sha1Hash;
-use narrow_text::{ParseFault, parse};
 use pond_base::limits::MOST_SCRIPT_BYTES;
 use pond_base::{Sink, Source, Unread, read_whole};
 use script_run::{End, run};
+use script_text::{ParseFault, parse};
 use std::alloc::Global;
 use std::thread::Threads;
 
@@ -101,6 +101,7 @@ fn run_text<R: Threads, K: Sink>(rt: &R, alloc: Global, text: &[u8], sink: &mut 
         Ok(script) => match run(rt, alloc, &script, Sha1Hash, sink) {
             End::Done => Status::Done,
             End::WriteFault => Status::WriteFault,
+            End::Clash { line, old, new } => Status::Clash { line, old, new },
             End::Memory => Status::Memory,
         },
         Err(ParseFault::Refused { line, cause }) => Status::Refused { line, cause },

@@ -1,2 +1,13 @@
-mod RunLemmas
+mod Executing
+mod Knowing
+mod Naming
 mod Settling
+mod Counting
+mod Submitting
+mod Ending
+mod Labels
+mod Beginning
+mod Fresh
+mod Versions
+mod Listing
+mod Stepping

@@ -1,28 +1,32 @@
 // A run of a script.
-ghost use Rattle.std.specs.Prelude.{◌≡◌, ◌≤◌, ◌+◌, ◌<◌, ◌^◌, List, ℕ, length, map, OnOk, [], ◌∷◌};
-ghost use Rattle.std.specs.Io.KnownBytes.{Appends};
-ghost use Rattle.std.specs.List.{fold};
-ghost use Rattle.pond_base.specs.Outside.{Rose, AppendsPrefix};
-ghost use Rattle.narrow_fold.specs.Plain.{object_in};
-ghost use Rattle.text_model.specs.Objects.{after_append};
-ghost use Rattle.text_model.specs.Text.{text_of, submits};
-ghost use Rattle.narrow_text.specs.Lines.{event_of};
+ghost use Rattle.std.specs.Prelude.{◌≡◌, ◌∷◌, ◌+◌, ◌<◌, ◌^◌, List, ℕ, length, true, IfOk, IfErr, string_bytes};
+ghost use Rattle.script_limits.specs.Limits.{LineFits, IsWithin};
+ghost use Rattle.script_requests.specs.Holding.{IsClashOf};
+ghost use Rattle.text_model.specs.Clashes.{has_clash};
+ghost use Rattle.text_model.specs.Named.{named};
+ghost use Rattle.text_model.specs.Text as model;
+ghost use Rattle.script_run.specs.Ends.{Says, EndsAt, Takes, written_at};
+ghost use Rattle.script_run.specs.States.{ForLines, StandsFor};
 
-use crate::printing::read_text;
-use block_names::Hash160;
-use narrow_fold::PlainObjects;
-use narrow_text::{Line, Script};
+use crate::printing::line_text;
+use crate::state::State;
+use block_names::{Hash160, NameFault};
+use bytes::Bytes;
 use pond_base::{OutOfMemory, Sink, write_whole};
+use script_terms::{Line, Script};
 use std::alloc::Global;
 use std::thread::Threads;
 
 /// How a run ends.
-#[derive(Clone, Copy, Debug, PartialEq, Eq)]
+#[derive(Debug, Drop)]
 pub enum End {
-    /// The whole text was taken by the sink.
+    /// The whole text was taken by the sink, and no two strings clash.
     Done,
     /// A take of the sink failed. A prefix of the text was taken.
     WriteFault,
+    /// Up to this line two different strings of one name were named, and before it none. The whole
+    /// text was taken, which ends with the line that says so.
+    Clash { line: u32, old: Bytes, new: Bytes },
     /// Memory ran out. A prefix of the text was taken.
     Memory,
 }
@@ -30,69 +34,100 @@ pub enum End {
 /// Runs a script, and writes its text into a sink. The text of each line is built and then written
 /// before the next line is done.
 ///
-/// The condition holds of each script that a text of at most 1,048,576 bytes is. The threads that a
-/// runtime may start and the hash are not used yet.
+/// The condition holds of each script that a text is. The threads that a runtime may start are not
+/// used yet.
 pub fn run<R: Threads, H: Hash160 + Drop, K: Sink>(
     _rt: &R,
     alloc: Global,
     script: &Script,
-    _hash: H,
+    hash: H,
     sink: &mut K,
 ) -> End
-    requires { length script.now < 2 ^ 32 }
-    ensures done { result ≡ End.Done → Appends (K.taken sink.old) (K.taken sink.new) (text_of script.now) }
-    ensures prefix { AppendsPrefix (K.taken sink.old) (K.taken sink.new) (text_of script.now) }
-    ensures kept { result ≡ End.Done → K.faults sink.new ≡ K.faults sink.old }
-    ensures write { result ≡ End.WriteFault → Rose (K.faults sink.old) (K.faults sink.new) }
-    ensures later { K.faults sink.old ≤ K.faults sink.new }
+    requires { IsWithin script.now }
+    ensures { Says H.naming script.now (record {
+      before = K.taken sink.old;
+      after = K.taken sink.new;
+      faults_before = K.faults sink.old;
+      faults_after = K.faults sink.new;
+    }) result }
 {
-    let lines = script.lines();
-    let mut objects = PlainObjects::new(alloc);
-
-    // Where the last settle stands, from which on submits are not settled yet.
-    let mut since = 0;
-    for (i, line) in lines.iter().enumerate() {
-        match line {
-            Line::Submit { .. } => {}
-            Line::Settle => {
-                let Ok(()) = settle(&mut objects, &lines[since..i]) else {
-                    return End::Memory;
-                };
-                since = i;
-            }
-            Line::Read { label } => {
-                let Ok(text) = read_text(alloc, &objects, label) else {
-                    return End::Memory;
-                };
-                let Ok(()) = write_whole(sink, text.as_bytes()) else {
-                    return End::WriteFault;
-                };
-            }
-        }
+    let mut state = match State::new(alloc, script, hash) {
+        Ok(state) => state,
+        Err(fault) => return end_at(alloc, 0, fault, sink),
+    };
+    for (number, line) in script.lines.as_slice() {
+        state = match after_line(state, alloc, *number, line, sink) {
+            Ok(state) => state,
+            Err(end) => return end,
+        };
     }
     End::Done
 }
 
-// Makes the versions of the submits among lines, in their order.
-fn settle(objects: &mut PlainObjects, lines: &[Line]) -> Result<(), OutOfMemory>
-    requires { (label : List ℕ) → (object_in objects.old label).version + length lines.now < 2 ^ 32 }
-    ensures { OnOk result ((label : List ℕ) → object_in objects.new label
-        ≡ fold (after_append label) (object_in objects.old label) (submits (map event_of lines.now))) }
+// The state after a line whose text was taken, or how the run ends there.
+fn after_line<H: Hash160 + Drop, K: Sink>(
+    state: State<H>,
+    alloc: Global,
+    number: u32,
+    line: &Line,
+    sink: &mut K,
+) -> Result<State<H>, End>
+    requires fits { LineFits line.now }
+    requires room { length state.requests + 1 < 2 ^ 32 }
+    ensures stands { IfOk result (λ after. ForLines H.naming state (λ script before. StandsFor H.naming script ((number, line.now) ∷ before) after)) }
+    ensures takes { IfOk result (λ after. ForLines H.naming state (λ script before. Takes (record {
+      before = K.taken sink.old;
+      after = K.taken sink.new;
+      faults_before = K.faults sink.old;
+      faults_after = K.faults sink.new;
+    }) (model.line_text H.naming script.setup.block before line.now))) }
+    ensures ends { IfErr result (λ end. ForLines H.naming state (λ script before. EndsAt H.naming (named H.naming script ((number, line.now) ∷ before)) number (written_at H.naming script before (number, line.now)) (record {
+      before = K.taken sink.old;
+      after = K.taken sink.new;
+      faults_before = K.faults sink.old;
+      faults_after = K.faults sink.new;
+    }) end)) }
 {
-    for line in lines {
-        settle_line(objects, line)?;
-    }
-    Ok(())
+    let Ok(text) = line_text(&state, line) else {
+        return Err(End::Memory);
+    };
+    let state = match state.after(line) {
+        Ok(state) => state,
+        Err(fault) => return Err(end_at(alloc, number, fault, sink)),
+    };
+    let Ok(()) = write_whole(sink, text.as_bytes()) else {
+        return Err(End::WriteFault);
+    };
+    Ok(state)
 }
 
-// Makes the version of a submit, where the append is not too long.
-fn settle_line(objects: &mut PlainObjects, line: &Line) -> Result<(), OutOfMemory>
-    requires { (label : List ℕ) → (object_in objects.old label).version + 1 < 2 ^ 32 }
-    ensures { OnOk result ((label : List ℕ) → object_in objects.new label
-        ≡ fold (after_append label) (object_in objects.old label) (submits (event_of line.now ∷ []))) }
+// The end of a run at a fault of a line.
+fn end_at<K: Sink>(alloc: Global, line: u32, fault: NameFault, sink: &mut K) -> End
+    ensures { (h : List ℕ → List ℕ) (strings : List (List ℕ)) (text : List ℕ) → IsClashOf h strings fault → (has_clash h strings ≡ true → text ≡ model.clash_line line)
+        → EndsAt h strings line text (record {
+          before = K.taken sink.old;
+          after = K.taken sink.new;
+          faults_before = K.faults sink.old;
+          faults_after = K.faults sink.new;
+        }) result }
 {
-    if let Line::Submit { label, content } = line {
-        objects.append(label, content.as_slice())?;
+    match fault {
+        NameFault::Memory => End::Memory,
+        NameFault::Clash { old, new } => {
+            let Ok(text) = clash_line(alloc, line) else {
+                return End::Memory;
+            };
+            let Ok(()) = write_whole(sink, text.as_bytes()) else {
+                return End::WriteFault;
+            };
+            End::Clash { line, old, new }
+        }
     }
-    Ok(())
+}
+
+// The line that ends a run at two strings of one name.
+fn clash_line(alloc: Global, line: u32) -> Result<String, OutOfMemory>
+    ensures { IfOk result (λ text. string_bytes text ≡ model.clash_line line) }
+{
+    Ok(format!(in alloc; "clash {line}\n")?)
 }

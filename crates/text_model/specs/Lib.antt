@@ -1,3 +1,6 @@
-pub mod Objects
+pub mod Blocks
+pub mod Clashes
+pub mod Named
+pub mod Requests
 pub mod Text
 pub mod Worked

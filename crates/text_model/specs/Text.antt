@@ -1,61 +1,34 @@
--- The text that a script prints, line by line, each line's from the list of all lines before it.
-use Rattle.std.specs.Prelude.{ℕ, Bool, true, false, List, [], ◌∷◌, ◌++◌, length, ◌==◌, if◌then◌else◌, codes}
+-- The text of a script: what each line prints, from the list of all lines before it, up to the first clash of names.
+use Rattle.std.specs.Prelude.{ℕ, List, [], ◌∷◌, ◌++◌, if◌then◌else◌, codes}
 use Rattle.std.specs.Fmt.{decimal}
-use Rattle.std.specs.List.{flat_map, list_any}
-use Rattle.hex.specs.Hex.{encode_lower}
-use Rattle.narrow_model.specs.Script.{Event, Submit, Settle, Read}
-use Rattle.text_model.specs.Objects.{Append, Object, object_after}
+use Rattle.object_model.specs.Folds.{versions_after}
+use Rattle.script_terms.specs.declared.line.Line.{Line}
+use Rattle.script_terms.specs.declared.line.Line.TheVariants.{Submit, Settle, Read, ShowMember, ShowVersion}
+use Rattle.script_terms.specs.declared.script.Script.{Script}
+use Rattle.text_model.specs.Blocks.{read_text, member_text, shape_text, up_to, line_feed}
+use Rattle.text_model.specs.Clashes.{has_clash}
+use Rattle.text_model.specs.Named.{named}
+use Rattle.text_model.specs.Requests.{Numbered, settled}
 
--- the append that an event submits
-abbrev pub append_of : Event → List Append
-append_of (Submit label content) = record { label = label; content = content } ∷ []
-append_of Settle = []
-append_of (Read label) = []
+-- what an event prints after earlier lines
+abbrev pub line_text : (List ℕ → List ℕ) → ℕ → List Numbered → Line → List ℕ
+line_text h block earlier (Submit client label clauses) = []
+line_text h block earlier Settle = []
+line_text h block earlier (Read client label) = read_text (versions_after h block label (settled h earlier))
+line_text h block earlier (ShowMember member) = member_text h block member (settled h earlier)
+line_text h block earlier (ShowVersion member label version) = shape_text h block (up_to version.0 (versions_after h block label (settled h earlier)))
 
--- whether an event is a settle
-abbrev pub is_settle : Event → Bool
-is_settle Settle = true
-is_settle (Submit label content) = false
-is_settle (Read label) = false
+-- the line that ends a run at two strings with one name
+abbrev pub clash_line : ℕ → List ℕ
+clash_line line = codes "clash " ++ decimal line ++ line_feed
 
--- the appends that events submit, in order
-abbrev pub submits : List Event → List Append
-submits events = flat_map append_of events
-
--- whether a settle is among events
-abbrev pub settles : List Event → Bool
-settles events = list_any is_settle events
-
--- the appends of events that a later one of them settles, in order
-abbrev pub settled : List Event → List Append
-settled [] = []
-settled (event ∷ events) = if settles events then append_of event ++ settled events else []
-
--- bytes as lower-case digits, and none as a dash
-abbrev pub printed_bytes : List ℕ → List ℕ
-printed_bytes [] = codes "-"
-printed_bytes (byte ∷ bytes) = encode_lower (byte ∷ bytes)
-
--- the line of a version: its number, its length and its bytes
-abbrev pub version_line : ℕ → List ℕ → List ℕ
-version_line version bytes =
-    codes "version " ++ (decimal version ++ (codes " length " ++ (decimal (length bytes) ++ (codes " " ++ (printed_bytes bytes ++ 10 ∷ [])))))
-
--- what a read prints: the line of the last version, or that there is none
-abbrev pub read_text : Object → List ℕ
-read_text object = if object.version == 0 then codes "no heart" ++ 10 ∷ [] else version_line object.version object.bytes
-
--- what an event prints after the events before it
-abbrev pub line_text : List Event → Event → List ℕ
-line_text before (Submit label content) = []
-line_text before Settle = []
-line_text before (Read label) = read_text (object_after label (settled before))
-
--- what events print, one after another, after the events before them
-abbrev pub text_after : List Event → List Event → List ℕ
-text_after before [] = []
-text_after before (event ∷ events) = line_text before event ++ text_after (before ++ event ∷ []) events
+-- what lines print after earlier ones; a line up to which two named strings clash prints that, and nothing follows it
+abbrev pub text_from : (List ℕ → List ℕ) → Script → List Numbered → List Numbered → List ℕ
+text_from h script earlier [] = []
+text_from h script earlier (line ∷ lines) =
+    if has_clash h (named h script (line ∷ earlier)) then clash_line line.0
+    else line_text h script.setup.block earlier line.1 ++ text_from h script (line ∷ earlier) lines
 
 -- what a script prints
-abbrev pub text_of : List Event → List ℕ
-text_of events = text_after [] events
+abbrev pub text_of : (List ℕ → List ℕ) → Script → List ℕ
+text_of h script = if has_clash h (named h script []) then clash_line 0 else text_from h script [] script.lines

@@ -1,4 +1,4 @@
-use Rattle.pond.proofs.Converses.{usage_where, refused_where, too_large_where, complete_where}
+use Rattle.pond.proofs.Converses.{usage_where, refused_where, too_large_where, complete_where, clash_where}
 use Rattle.pond.proofs.top.pond.Goals as goal
 
 pub returns : goal.returns
@@ -8,4 +8,5 @@ returns g c = record {
   refused = refused_where c.answer.result _ c.answer.ensures;
   too_large = too_large_where c.answer.result _ c.answer.ensures;
   complete = complete_where c.answer.result _ c.answer.ensures;
+  clash = clash_where c.answer.result _ c.answer.ensures;
 }

@@ -1,13 +1,10 @@
-use Rattle.std.proofs.Common.{◌≡◌, map, take, []}
-use Rattle.std.specs.Io.KnownBytes.{Appends}
-use Rattle.text_model.specs.Text.{text_after}
-use Rattle.narrow_text.specs.Lines.{event_of}
-use Rattle.script_run.proofs.RunLemmas.{Stands}
+use Rattle.script_run.proofs.Stepping.{Stands}
 use Rattle.script_run.proofs.running.run.Given as goal
 
-abbrev pub invariant-loop-i : goal.invariant-loop-i
-invariant-loop-i g l = record {
-  stands : Stands l.lines l.i l.since l.objects;
-  written : Appends (g.K.Sink.taken l.initial.sink) (g.K.Sink.taken l.sink) (text_after [] (map event_of (take l.i l.lines)));
-  kept : g.K.Sink.faults l.sink ≡ g.K.Sink.faults l.initial.sink;
-}
+abbrev pub invariant-loop-number : goal.invariant-loop-number
+invariant-loop-number g l = Stands g.H.Hash160.naming l.script l.number-index (record {
+  before = g.K.Sink.taken l.initial.sink;
+  after = g.K.Sink.taken l.sink;
+  faults_before = g.K.Sink.faults l.initial.sink;
+  faults_after = g.K.Sink.faults l.sink;
+}) l.state

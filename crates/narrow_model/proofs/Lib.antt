@@ -1,4 +1,0 @@
-mod LineFeeds
-pub mod Sizes
-mod Spellings
-mod Whole

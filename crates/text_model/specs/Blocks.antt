@@ -1,0 +1,74 @@
+-- What events print: one block a form. Versions are a list of byte strings with the newest first, which ends with the empty
+-- one, and requests have the newest first too.
+use Rattle.std.specs.Prelude.{ℕ, ◌+◌, ◌-◌, List, [], ◌∷◌, ◌++◌, length, drop, nat_lt, if◌then◌else◌, codes}
+use Rattle.std.specs.Fmt.{decimal}
+use Rattle.hex.specs.Hex.{encode_lower}
+use Rattle.pond_base.specs.declared.numbers.MemberId.{MemberId}
+use Rattle.guarded_update.specs.declared.request.Request.{Request}
+use Rattle.object_model.specs.Folds.{Effect, Makes, Refuses, Repeats, effect, made_by, versions_after}
+use Rattle.object_model.specs.Trees.{height_of, version_strings, new_strings}
+use Rattle.object_model.specs.Updates.{Refusal, NoClause, OutOfRange, TooLong, newest}
+
+-- texts one behind the other, and a line feed behind them
+abbrev pub line_feed : List ℕ
+line_feed = 10 ∷ []
+
+-- bytes as lower-case digits, and none as a dash
+abbrev pub printed_bytes : List ℕ → List ℕ
+printed_bytes [] = codes "-"
+printed_bytes (byte ∷ bytes) = encode_lower (byte ∷ bytes)
+
+-- the line of a version: its number, its length and its bytes
+abbrev pub version_line : ℕ → List ℕ → List ℕ
+version_line version bytes =
+    codes "version " ++ decimal version ++ codes " length " ++ decimal (length bytes) ++ codes " " ++ printed_bytes bytes ++ line_feed
+
+-- what a read prints: the newest version, or that none was made
+abbrev pub read_text : List (List ℕ) → List ℕ
+read_text versions =
+    if nat_lt 1 (length versions) then version_line (length versions - 1) (newest versions) else codes "no heart" ++ line_feed
+
+abbrev pub refusal_text : Refusal → List ℕ
+refusal_text NoClause = codes "no clause"
+refusal_text OutOfRange = codes "out of range"
+refusal_text TooLong = codes "too long"
+
+-- the outcome of a request on an object with so many versions, the empty one among them
+abbrev pub outcome_text : ℕ → Effect → List ℕ
+outcome_text count (Makes content) = codes "made " ++ decimal count
+outcome_text count (Refuses refusal) = refusal_text refusal
+outcome_text count Repeats = codes "repeat"
+
+-- the line of a slot: its number, the client and number of its request, and the outcome
+abbrev pub slot_line : ℕ → Request → List ℕ → List ℕ
+slot_line slot request outcome =
+    decimal slot ++ codes " c" ++ decimal request.client.0 ++ codes " " ++ decimal request.number ++ codes " " ++ outcome ++ line_feed
+
+-- the line of an executed request
+abbrev pub executed_line : (List ℕ → List ℕ) → ℕ → Request → List Request → List ℕ
+executed_line h block request earlier =
+    slot_line (length earlier + 1) request (outcome_text (length (versions_after h block request.label earlier)) (effect h block request earlier (made_by h block earlier)))
+
+-- the lines of executed requests, the first one first
+abbrev pub executed_lines : (List ℕ → List ℕ) → ℕ → List Request → List ℕ
+executed_lines h block [] = []
+executed_lines h block (request ∷ earlier) = executed_lines h block earlier ++ executed_line h block request earlier
+
+-- what a member executed
+abbrev pub member_text : (List ℕ → List ℕ) → ℕ → MemberId → List Request → List ℕ
+member_text h block member executed =
+    codes "member " ++ decimal member.0 ++ codes " executed " ++ decimal (length executed) ++ line_feed ++ executed_lines h block executed
+
+-- the line of a version over older ones: its length, its height, how many strings it has, and how many of them are new
+abbrev pub shape_line : (List ℕ → List ℕ) → ℕ → List ℕ → List (List ℕ) → List ℕ
+shape_line h block content older =
+    codes "version " ++ decimal (length older) ++ codes " length " ++ decimal (length content) ++ codes " height " ++ decimal (height_of block content)
+    ++ codes " strings " ++ decimal (length (version_strings h block content older)) ++ codes " new " ++ decimal (length (new_strings h block content older)) ++ line_feed
+
+abbrev pub shape_text : (List ℕ → List ℕ) → ℕ → List (List ℕ) → List ℕ
+shape_text h block [] = codes "no version" ++ line_feed
+shape_text h block (content ∷ older) = shape_line h block content older
+
+-- versions up to that of a number, which is then the newest, and none where there is none of that number
+abbrev pub up_to : ℕ → List (List ℕ) → List (List ℕ)
+up_to version versions = if nat_lt version (length versions) then drop (length versions - 1 - version) versions else []
