@@ -1,0 +1,4 @@
+pub mod Folds
+pub mod Growing
+pub mod Laws
+pub mod Rings

@@ -1,0 +1,22 @@
+// What a node is made of.
+ghost use Rattle.std.specs.Prelude.{◌≤◌};
+
+use object_fold::{Objects, Outcome};
+use pond_base::Items;
+use ring_member::Member;
+use std::alloc::Global;
+
+/// A correct member of a ring, with the objects that its executed requests make and their outcomes.
+#[derive(Drop)]
+pub struct Node {
+    pub(crate) alloc: Global,
+    /// How many clients there are.
+    pub(crate) clients: u8,
+    /// How many bytes a whole leaf has.
+    pub(crate) block: u32,
+    pub(crate) member: Member,
+    pub(crate) objects: Objects,
+    pub(crate) outcomes: Items<Outcome>,
+    ghost few_clients: { clients ≤ 16 },
+    ghost short_block: { block ≤ 8192 },
+}

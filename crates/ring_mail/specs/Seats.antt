@@ -1,0 +1,8 @@
+-- The places that a ring has for parties, whatever its size.
+use Rattle.std.specs.Prelude.{◌<◌}
+use Rattle.ring_model.specs.Messages.{Party, Member, Client}
+
+-- a party has a seat: there are ten for members and sixteen for clients
+abbrev pub IsSeat : Party → Type 0
+IsSeat (Member i) = i < 10
+IsSeat (Client c) = c < 16

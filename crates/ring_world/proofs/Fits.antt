@@ -1,0 +1,45 @@
+-- What a step asks of a world's values follows from the events so far.
+use Rattle.std.proofs.Common.{◌≡◌, ℕ, ◌<◌, ◌==◌, List, length, count_by, get_or, arith}
+use Rattle.std.proofs.lemmas.List.Sums.{length-filter}
+use Rattle.ring_model.specs.Messages.{Ring, Member as member}
+use Rattle.ring_model.specs.World as model
+use Rattle.ring_model.specs.World.{world}
+use Rattle.message_model.specs.Meaning.{who}
+use Rattle.ring_node.specs.Naming.{Namings}
+use Rattle.ring_mail.proofs.Keeping.{filter-short}
+use Rattle.ring_world.specs.declared.event.Event.{Event}
+use Rattle.ring_world.specs.declared.event.Event.TheVariants.{Submit, Resubmit, Deliver, Forge}
+use Rattle.ring_world.specs.declared.state.World.{World}
+use Rattle.ring_world.specs.Deliveries.{deliveries}
+use Rattle.ring_world.specs.Standing.{Standing}
+use Rattle.ring_world.specs.Conditions.{MayStep}
+use Rattle.ring_world.specs.Steps.{IsStep, IsClient}
+use Rattle.ring_world.specs.Worlds.{WorldStands}
+use Rattle.ring_world.proofs.Requests.{numbered_next}
+use Rattle.ring_world.proofs.Stepping.{party_seat}
+
+-- a declared client is one of the world
+declared_client : {N : Type 0} (stands : Standing N) (g : Ring) (namings : Namings) (w : World N) (events : List model.Event) (c : ℕ) → WorldStands stands g namings w events → c < g.clients → IsClient w c
+declared_client stands g namings w events c s low = (omega (arith, low, s.is.small.few_clients), omega (arith, low, s.is.askers))
+
+pub step_fits : {N : Type 0} (stands : Standing N) (g : Ring) (namings : Namings) (w : World N) (events : List model.Event) (e : Event) → WorldStands stands g namings w events → MayStep g (world g events) e → IsStep w e
+step_fits stands g namings w events (Submit c label update) s may =
+    let known = declared_client stands g namings w events c.0 s may.0 in (
+      known,
+      λ d.
+          let size : length (get_or w.requests.items c.0 d).items ≡ count_by (λ r. g.owner r == c.0) (world g events).submits = numbered_next stands g namings w (world g events) (deliveries g events) c.0 d known.1 s.is in
+          let all = length-filter (λ r. g.owner r == c.0) (world g events).submits in
+          let short = filter-short (λ r. g.owner r == c.0) (world g events).submits in
+          omega (arith, size, all, short, may.1),
+      may.2,
+    )
+step_fits stands g namings w events (Resubmit c n) s may =
+    let known = declared_client stands g namings w events c.0 s may.0 in (
+      known,
+      may.1,
+      λ d.
+          let size : length (get_or w.requests.items c.0 d).items ≡ count_by (λ r. g.owner r == c.0) (world g events).submits = numbered_next stands g namings w (world g events) (deliveries g events) c.0 d known.1 s.is in
+          omega (arith, size, may.2),
+    )
+step_fits stands g namings w events (Deliver p q k) s may = may
+step_fits stands g namings w events (Forge i q bytes) s may = (party_seat g (member i.0) s.is.small may.0, party_seat g (who q) s.is.small may.1)

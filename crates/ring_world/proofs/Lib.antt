@@ -1,0 +1,10 @@
+pub mod Bounded
+pub mod Calls
+pub mod Correct
+pub mod Delivered
+pub mod Fits
+pub mod Looking
+pub mod Order
+pub mod Requests
+pub mod Settling
+pub mod Stepping

@@ -1,0 +1,75 @@
+-- What look-ups find.
+use Rattle.std.proofs.Common.{◌≡◌, ℕ, zero, suc, ◌+◌, ◌*◌, ◌<◌, ◌≤◌, min, Bool, true, false, cond, not, ◌&&◌, List, [], ◌∷◌, ◌++◌, length, find, get_or, Some, None, option_map, sym, ap, ◌∙◌, subst, arith, length-append, append_assoc}
+use Rattle.std.specs.List.{AllByRecursion as Each}
+use Rattle.ring_model.specs.Messages.{Ring, Letter, Party as Who, Packet as Sent, same_party}
+use Rattle.ring_model.specs.Laws.{IsCorrect}
+use Rattle.ring_model.proofs.History.{same_some}
+use Rattle.ring_node.specs.Naming.{Namings}
+use Rattle.ring_mail.specs.declared.kept.Mail.{Mail}
+use Rattle.ring_mail.specs.declared.kept.Note.{Note}
+use Rattle.ring_mail.specs.Places.{Place, placed, places, place_of, is_done}
+use Rattle.ring_mail.specs.Mails.{IsMail}
+use Rattle.ring_mail.proofs.Keeping.{filter-short}
+use Rattle.ring_world.specs.declared.members.Members.{Members}
+use Rattle.ring_world.specs.Bests.{IsBest}
+use Rattle.ring_world.specs.Crew.{AreMembers}
+use Rattle.ring_world.specs.Skipping.{Told, told, counted}
+use Rattle.ring_world.specs.Standing.{Standing}
+use Rattle.ring_world.proofs.Correct.{none_correct}
+use Rattle.ring_world.proofs.Stepping.{all_few, told_place}
+
+-- ---- what is pending
+
+-- a place is less than the number of messages
+placed_low : (before xs : List Sent) → Each (λ (a : Place). a.place < length (before ++ xs)) (placed before xs)
+placed_low before [] = tt
+placed_low before (x ∷ xs) = (
+  let short = filter-short (λ (y : Sent). same_party y.from x.from && same_party y.to x.to) before in
+      let size = length-append before (x ∷ xs) in
+      omega (arith, short, size),
+  subst (λ (ys : List Sent). Each (λ (a : Place). a.place < length ys) (placed (before ++ x ∷ []) xs)) (append_assoc before (x ∷ []) xs) (placed_low (before ++ x ∷ []) xs),
+)
+
+find_holds : {X : Type 0} (P : X → Type 0) (t : X → Bool) (xs : List X) (x : X) → Each P xs → find t xs ≡ Some x → P x
+find_holds P t [] x h e = absurd (cc e)
+find_holds P t (y ∷ xs) x h e =
+    elim (t y) as (λ b. cond b (Some y) (find t xs) ≡ Some x → P x) [
+      | true ↦ λ f. subst P (same_some y x f) h.0
+      | false ↦ λ f. find_holds P t xs x h.1 f
+    ] e
+
+-- the message that is found, counted from 1
+pub found_told : (m : Mail) (sent : List Sent) (done : List Place) (n : Note) (t : Told) → IsMail m sent done → Some (place_of n) ≡ find (λ a. not (is_done done a)) (places sent) → t ≡ (n.from, n.to, min (n.place + 1) 4294967295)
+    → Some (told t) ≡ option_map counted (find (λ a. not (is_done done a)) (places sent))
+found_told m sent done n t h found is =
+    let low = find_holds (λ (a : Place). a.place < length sent) (λ a. not (is_done done a)) (places sent) (place_of n) (placed_low [] sent) (sym found) in
+    let few = all_few m sent done h in
+    let next : min (n.place + 1) 4294967295 ≡ n.place + 1 = omega (arith, low, few) in
+    ap Some (told_place n (min (n.place + 1) 4294967295) t is next) ∙ ap (option_map counted) found
+
+pub found_none : (sent : List Sent) (done : List Place) → None ≡ find (λ a. not (is_done done a)) (places sent) → None ≡ option_map counted (find (λ a. not (is_done done a)) (places sent))
+found_none sent done found = ap (option_map counted) found
+
+-- ---- the best member
+
+-- where a flag is down, it is there
+pub down_there : (flags : List Bool) (i : ℕ) → get_or flags i true ≡ false → i < length flags
+down_there [] i e = absurd (cc e)
+down_there (x ∷ flags) zero e = omega arith
+down_there (x ∷ flags) (suc i) e = let low = down_there flags i e in omega (arith, low)
+
+-- the correct member that is kept is one
+kept_correct : {N : Type 0} (stands : Standing N) (g : Ring) (namings : Namings) (m : Members N) (got : Who → List Letter) → AreMembers stands g namings m got → IsCorrect g m.correct
+kept_correct stands g namings m got h =
+    let low = down_there m.faulty.items m.correct m.there in
+    let less : m.correct < 3 * g.f + 1 = omega (arith, low, m.flags, h.count) in
+    (less, sym (h.faulty_are m.correct true less) ∙ m.there)
+
+-- a best one is found, and it has a node
+pub best_there : {N : Type 0} (stands : Standing N) (g : Ring) (namings : Namings) (m : Members N) (got : Who → List Letter) → AreMembers stands g namings m got → IsBest g got 0 (3 * g.f + 1) None → (Y : Type 0) → Y
+best_there stands g namings m got h none Y =
+    let right = kept_correct stands g namings m got h in
+    let low : 0 ≤ m.correct = omega arith in
+    let high : m.correct < 0 + (3 * g.f + 1) = omega (arith, right.0) in
+    let wrong = none_correct g 0 (3 * g.f + 1) m.correct none low high in
+    absurd (cc (wrong, right.1))

@@ -1,0 +1,203 @@
+-- One message handed to one party.
+use Rattle.std.proofs.Common.{◌≡◌, ◌&&◌, ℕ, zero, suc, ◌+◌, ◌-◌, ◌<◌, ◌≤◌, min, List, [], ◌∷◌, ◌++◌, length, map, take, drop, slice_get, get_or, Some, None, ⊎_elim, sym, ap, ap₂, ◌∙◌, subst, arith, append-nil, append_assoc, length-append, length-drop}
+use Rattle.std.specs.List.{range_with_len}
+use Rattle.std.proofs.lemmas.Bool.{cases_lt}
+use Rattle.std.proofs.lemmas.List.{take_more, drop-append-le, drop-drop, drop-map, map-append, length-map}
+use Rattle.std.proofs.lemmas.Option.{slice_get_within}
+use Rattle.circular_buffer.specs.Buffer.{Buffer, buffer, keep_last}
+use Rattle.ring_model.specs.Messages.{Ring, Party as Who, Packet as Sent, Member as member, Client as client, same_party}
+use Rattle.ring_model.specs.World.{World as Model, between, came, IsParty}
+use Rattle.message_model.specs.Meaning.{who, meaning}
+use Rattle.ring_mail.specs.Seats.{IsSeat}
+use Rattle.ring_node.specs.Naming.{Namings}
+use Rattle.ring_mail.specs.declared.kept.Mail.{Mail}
+use Rattle.ring_mail.specs.declared.kept.Note.{Note}
+use Rattle.ring_mail.specs.Places.{Place, delivery, place_of, packet_of}
+use Rattle.ring_mail.specs.Mails.{IsMail}
+use Rattle.ring_mail.proofs.Keeping.{delivery_there, delivery_none, filter-short, length-placed}
+use Rattle.ring_world.specs.declared.members.Members.{Members}
+use Rattle.ring_world.specs.declared.state.World.{World}
+use Rattle.ring_world.specs.Standing.{Standing}
+use Rattle.ring_world.specs.Crew.{AreMembers, with_letter, owed_for}
+use Rattle.ring_world.specs.Skipping.{Told, told, counted}
+use Rattle.ring_world.specs.Worlds.{IsSmall, IsWorld, asks_of}
+
+-- ---- posting
+
+pub posted_more : {X : Type 0} (f : X → Sent) (sent : List Sent) (xs : List X) (i : ℕ) (x : X) → i < length xs → x ≡ get_or xs i x → (sent ++ map f (take i xs)) ++ f x ∷ [] ≡ sent ++ map f (take (i + 1) xs)
+posted_more f sent xs i x low is =
+    append_assoc sent (map f (take i xs)) (f x ∷ [])
+    ∙ ap (λ ys. sent ++ ys) (sym (ap (map f) (take_more xs i x low) ∙ map-append f (take i xs) (get_or xs i x ∷ []) ∙ ap (λ y. map f (take i xs) ++ f y ∷ []) (sym is)))
+
+range_more : (a n : ℕ) → range_with_len a (suc n) ≡ range_with_len a n ++ (a + n) ∷ []
+range_more a zero = ap (λ k. k ∷ []) here
+  where
+    here : a ≡ a + 0
+    here = omega arith
+range_more a (suc n) = ap (λ xs. a ∷ xs) (range_more (a + 1) n ∙ ap (λ k. range_with_len (a + 1) n ++ k ∷ []) next)
+  where
+    next : a + 1 + n ≡ a + suc n
+    next = omega arith
+
+-- a client's message to one member more
+pub asked_more : (sent : List Sent) (j c : ℕ) (bytes : List ℕ) → (sent ++ asks_of j c bytes) ++ packet_of (client c) (member j) bytes ∷ [] ≡ sent ++ asks_of (j + 1) c bytes
+asked_more sent j c bytes =
+    append_assoc sent (asks_of j c bytes) (packet_of (client c) (member j) bytes ∷ [])
+    ∙ ap (λ ys. sent ++ ys)
+    (sym (ap (λ n. asks_of n c bytes) next ∙ ap (map (λ j. packet_of (client c) (member j) bytes)) (range_more 0 j) ∙ map-append (λ j. packet_of (client c) (member j) bytes) (range_with_len 0 j) ((0 + j) ∷ []) ∙ ap (λ k. asks_of j c bytes ++ packet_of (client c) (member k) bytes ∷ []) zeroed))
+  where
+    next : j + 1 ≡ suc j
+    next = omega arith
+
+    zeroed : 0 + j ≡ j
+    zeroed = omega arith
+
+-- ---- a member's turn
+
+-- a member was handed a letter, and what it owes was sent
+pub handed : {N : Type 0} (stands : Standing N) (g : Ring) (namings : Namings) (w : World N) (v : Model) (done : List Place) (from : Who) (i : ℕ) (bytes : List ℕ) (m : Members N) (mail : Mail)
+    → AreMembers stands g namings m (with_letter v.got (member i) (record { from = from; message = meaning bytes }))
+    → IsMail mail (v.sent ++ owed_for g i (v.got (member i)) (record { from = from; message = meaning bytes })) done
+    → IsWorld stands g namings w v done
+    → IsWorld stands g namings (record w { members = m; mail = mail }) (came g v (Some (packet_of from (member i) bytes))) done
+handed stands g namings w v done from i bytes m mail are posted h =
+    record {
+      small = h.small;
+      mail_is = posted;
+      members_are = are;
+      askers = h.askers;
+      requests_are = h.requests_are;
+      recent_is = h.recent_is;
+      eight = h.eight;
+      going = h.going;
+    }
+
+-- a client was handed a letter, which sends nothing
+pub told_client : {N : Type 0} (stands : Standing N) (g : Ring) (namings : Namings) (w : World N) (v : Model) (done : List Place) (from : Who) (c : ℕ) (bytes : List ℕ)
+    → IsWorld stands g namings w v done → IsWorld stands g namings w (came g v (Some (packet_of from (client c) bytes))) done
+told_client stands g namings w v done from c bytes h =
+    record {
+      small = h.small;
+      mail_is = subst (λ xs. IsMail w.mail xs done) (sym (append-nil v.sent)) h.mail_is;
+      members_are = record { count = h.members_are.count; faulty_are = h.members_are.faulty_are; nodes_stand = h.members_are.nodes_stand };
+      askers = h.askers;
+      requests_are = h.requests_are;
+      recent_is = h.recent_is;
+      eight = h.eight;
+      going = h.going;
+    }
+
+-- ---- the last deliveries
+
+keep_long : {X : Type 0} (xs : List X) (a : X) → 8 ≤ length xs → keep_last 8 (keep_last 8 xs ++ a ∷ []) ≡ keep_last 8 (xs ++ a ∷ [])
+keep_long xs a long =
+    let k : ℕ = length xs - 8 in
+    let size : length (drop (length xs - 8) xs ++ a ∷ []) - 8 ≡ 1 = omega (arith, length-append (drop (length xs - 8) xs) (a ∷ []), length-drop (length xs - 8) xs, long) in
+    let all : length (xs ++ a ∷ []) - 8 ≡ length xs - 8 + 1 = omega (arith, length-append xs (a ∷ []), long) in
+    let within : length xs - 8 ≤ length xs = omega arith in
+    ap (λ n. drop n (drop (length xs - 8) xs ++ a ∷ [])) size
+    ∙ ap (drop 1) (sym (drop-append-le (length xs - 8) xs (a ∷ []) within))
+    ∙ drop-drop 1 (length xs - 8) (xs ++ a ∷ [])
+    ∙ ap (λ n. drop n (xs ++ a ∷ [])) (sym all)
+
+keep_short : {X : Type 0} (xs : List X) (a : X) → length xs ≤ 8 → keep_last 8 (keep_last 8 xs ++ a ∷ []) ≡ keep_last 8 (xs ++ a ∷ [])
+keep_short xs a short =
+    let none : length xs - 8 ≡ 0 = omega (arith, short) in
+    ap (λ n. keep_last 8 (drop n xs ++ a ∷ [])) none
+
+keep_more : {X : Type 0} (xs : List X) (a : X) → keep_last 8 (keep_last 8 xs ++ a ∷ []) ≡ keep_last 8 (xs ++ a ∷ [])
+keep_more xs a = ⊎_elim (λ low. let short : length xs ≤ 8 = omega arith in keep_short xs a short) (keep_long xs a) (cases_lt (length xs) 8)
+
+keep_map : {X Y : Type 0} (f : X → Y) (n : ℕ) (xs : List X) → map f (keep_last n xs) ≡ keep_last n (map f xs)
+keep_map f n xs = sym (drop-map f (length xs - n) xs) ∙ ap (λ k. drop (k - n) (map f xs)) (sym (length-map xs f))
+
+-- a delivery is the last one
+pub noted_last : (old new : List Told) (t : Told) (a : Place) (done : List Place) → new ≡ keep_last 8 (old ++ t ∷ []) → told t ≡ counted a → map told old ≡ map counted (keep_last 8 done)
+    → map told new ≡ map counted (keep_last 8 (done ++ a ∷ []))
+noted_last old new t a done is same h =
+    ap (map told) is ∙ keep_map told 8 (old ++ t ∷ []) ∙ ap (keep_last 8) (map-append told old (t ∷ []) ∙ ap₂ (λ xs y. xs ++ y ∷ []) h same ∙ sym (map-append counted (keep_last 8 done) (a ∷ [])))
+    ∙ sym (keep_map counted 8 (keep_last 8 done ++ a ∷ [])) ∙ ap (map counted) (keep_more done a)
+
+-- ---- a delivery
+
+-- no place is too great to be counted from 1
+pub all_few : (m : Mail) (sent : List Sent) (done : List Place) → IsMail m sent done → length sent ≤ 4294967295
+all_few m sent done h =
+    let size : length m.order.items ≡ length sent = sym (length-map m.order.items place_of) ∙ ap length h.order_is ∙ length-placed [] sent in
+    omega (arith, size, m.few)
+
+pub place_low : (m : Mail) (sent : List Sent) (done : List Place) (p q : Who) (k : ℕ) (x : Sent) → IsMail m sent done → Some x ≡ slice_get (between p q sent) k → min (k + 1) 4294967295 ≡ k + 1
+place_low m sent done p q k x h is =
+    let within = slice_get_within (between p q sent) k x (sym is) in
+    let short = filter-short (λ (x : Sent). same_party x.from p && same_party x.to q) sent in
+    let few = all_few m sent done h in
+    omega (arith, within, short, few)
+
+-- the told message of a place is that place, counted from 1
+pub told_place : (n : Note) (k : ℕ) (t : Told) → t ≡ (n.from, n.to, k) → k ≡ n.place + 1 → told t ≡ counted (place_of n)
+told_place n k t is next = ap told is ∙ ap (λ k. (who n.from, who n.to, k)) next
+
+-- a message was taken out, and is the last one
+pub marked_world : {N : Type 0} (stands : Standing N) (g : Ring) (namings : Namings) (w : World N) (v : Model) (done : List Place) (a : Place) (t : Told) (mail : Mail) (recent : Buffer Told)
+    → IsMail mail v.sent (done ++ a ∷ []) → recent ≡ buffer (keep_last w.recent.capacity (w.recent.items ++ t ∷ [])) w.recent.capacity → told t ≡ counted a → IsWorld stands g namings w v done
+    → IsWorld stands g namings (record w { mail = mail; recent = recent }) v (done ++ a ∷ [])
+marked_world stands g namings w v done a t mail recent posted is same h =
+    record {
+      small = h.small;
+      mail_is = posted;
+      members_are = h.members_are;
+      askers = h.askers;
+      requests_are = h.requests_are;
+      recent_is = noted_last w.recent.items recent.items t a done (ap (λ (b : Buffer Told). b.items) is ∙ ap (λ k. keep_last k (w.recent.items ++ t ∷ [])) h.eight) same h.recent_is;
+      eight = ap (λ (b : Buffer Told). b.capacity) is ∙ h.eight;
+      going = h.going;
+    }
+
+-- only the mail changed
+pub same_mail : {N : Type 0} (stands : Standing N) (g : Ring) (namings : Namings) (w : World N) (v : Model) (done : List Place) (mail : Mail) → IsMail mail v.sent done → IsWorld stands g namings w v done
+    → IsWorld stands g namings (record w { mail = mail }) v done
+same_mail stands g namings w v done mail posted h =
+    record {
+      small = h.small;
+      mail_is = posted;
+      members_are = h.members_are;
+      askers = h.askers;
+      requests_are = h.requests_are;
+      recent_is = h.recent_is;
+      eight = h.eight;
+      going = h.going;
+    }
+
+abbrev pub at_place : Who → Who → ℕ → Place
+at_place p q k = record { from = p; to = q; place = k }
+
+-- where the link has a message there
+pub delivered_some : {N : Type 0} (stands : Standing N) (g : Ring) (namings : Namings) (new : World N) (v : Model) (done : List Place) (p q : Who) (k : ℕ) (x : Sent)
+    → Some x ≡ slice_get (between p q v.sent) k → IsWorld stands g namings new (came g v (Some x)) (done ++ at_place p q k ∷ [])
+    → IsWorld stands g namings new (came g v (slice_get (between p q v.sent) k)) (done ++ delivery v.sent (at_place p q k))
+delivered_some stands g namings new v done p q k x is h =
+    subst (λ o. IsWorld stands g namings new (came g v o) (done ++ delivery v.sent (at_place p q k))) is
+    (subst (λ ds. IsWorld stands g namings new (came g v (Some x)) (done ++ ds)) (sym (delivery_there v.sent (at_place p q k) x (sym is))) h)
+
+-- where it has none
+pub delivered_none : {N : Type 0} (stands : Standing N) (g : Ring) (namings : Namings) (w : World N) (v : Model) (done : List Place) (mail : Mail) (p q : Who) (k : ℕ)
+    → None ≡ slice_get (between p q v.sent) k → IsMail mail v.sent (done ++ delivery v.sent (at_place p q k)) → IsWorld stands g namings w v done
+    → IsWorld stands g namings (record w { mail = mail }) (came g v (slice_get (between p q v.sent) k)) (done ++ delivery v.sent (at_place p q k))
+delivered_none {N} stands g namings w v done mail p q k is posted h =
+    subst (λ o. IsWorld stands g namings new (came g v o) (done ++ delivery v.sent (at_place p q k))) is
+    (subst (IsWorld stands g namings new v) (sym same) (same_mail stands g namings w v done mail (subst (IsMail mail v.sent) same posted) h))
+  where
+    new : World N
+    new = record w { mail = mail }
+
+    same : done ++ delivery v.sent (at_place p q k) ≡ done
+    same = ap (λ ds. done ++ ds) (delivery_none v.sent (at_place p q k) (sym is)) ∙ append-nil done
+
+pub posted_there : (m : Mail) (sent : List Sent) (done : List Place) (p q : Who) (k : ℕ) (x : Sent) → Some x ≡ slice_get (between p q sent) k → IsMail m sent (done ++ delivery sent (at_place p q k)) → IsMail m sent (done ++ at_place p q k ∷ [])
+posted_there m sent done p q k x is h = subst (λ ds. IsMail m sent (done ++ ds)) (delivery_there sent (at_place p q k) x (sym is)) h
+
+-- ---- parties and seats
+
+pub party_seat : (g : Ring) (p : Who) → IsSmall g → IsParty g p → IsSeat p
+party_seat g (member i) small h = omega (arith, small.few, h)
+party_seat g (client c) small h = omega (arith, small.few_clients, h)

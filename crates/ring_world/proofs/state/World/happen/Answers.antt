@@ -1,0 +1,72 @@
+use Rattle.std.proofs.Common.{ℕ, ◌∷◌, Ok, sym, ap, ◌∙◌, subst, append-nil}
+use Rattle.std.proofs.lemmas.Result.{err_from_is_err_and}
+use Rattle.ring_model.specs.World.{world, MayHappen}
+use Rattle.ring_world.specs.declared.event.Event.{Event}
+use Rattle.ring_world.specs.declared.event.Event.TheVariants.{Submit}
+use Rattle.ring_world.specs.Named.{Names}
+use Rattle.ring_world.specs.Worlds.{IsWorld, WorldStands, event_of, strings_of}
+use Rattle.ring_world.specs.Deliveries.{deliveries}
+use Rattle.ring_world.specs.Steps.{is_there}
+use Rattle.ring_world.proofs.Calls.{names_err}
+use Rattle.ring_world.proofs.Order.{all_in_order}
+use Rattle.ring_world.proofs.state.World.happen.Goals as goal
+
+pub returns-in_err-submit-in-Submit-clause-names : goal.returns-in_err-submit-in-Submit-clause-names
+returns-in_err-submit-in-Submit-clause-names g c = λ r namings events ring h may.
+    let p = err_from_is_err_and c.from_residual.result c.from_residual.ensures.1 in
+    let failed = c.in_err-submit-in-Submit.ensures.names r namings (world r events) (deliveries r events) ring h.is in
+    subst (λ (e : Event). Names g.H.Hash160.naming (strings_of r namings (world r events) e) c.args.book.now.held c.submit.new.book.held c.from_residual.result) (sym c.in-Submit.is)
+    (names_err g.H.Hash160.naming (strings_of r namings (world r events) (Submit c.in-Submit.client c.in-Submit.label c.in-Submit.update)) c.args.book.now.held c.submit.new.book.held c.from_residual.result p.0 c.in_err-submit-in-Submit.field-0.0 p.1 p.2 failed.0 failed.1)
+
+pub returns-in_ok-submit-in-Submit-clause-stands : goal.returns-in_ok-submit-in-Submit-clause-stands
+returns-in_ok-submit-in-Submit-clause-stands g c = λ r namings events ring h may.
+    let may2 = subst (λ (e : Event). MayHappen r (world r events) (event_of r (world r events) e)) c.in-Submit.is may in
+    subst (λ (e : Event). WorldStands g.N.Node.stands r namings c.submit.new.self (event_of r (world r events) e ∷ events)) (sym c.in-Submit.is)
+    (record { is = subst (IsWorld g.N.Node.stands r namings c.submit.new.self _) (sym (append-nil (deliveries r events))) (c.in_ok-submit-in-Submit.ensures.ok r namings (world r events) (deliveries r events) ring h.is); legal = (may2, h.legal) })
+
+pub returns-in_ok-submit-in-Submit-clause-names : goal.returns-in_ok-submit-in-Submit-clause-names
+returns-in_ok-submit-in-Submit-clause-names g c = λ r namings events ring h may.
+    subst (λ (e : Event). Names {X = ℕ} g.H.Hash160.naming (strings_of r namings (world r events) e) c.args.book.now.held c.submit.new.book.held (Ok 0)) (sym c.in-Submit.is)
+    (c.in_ok-submit-in-Submit.ensures.names r namings (world r events) (deliveries r events) ring h.is)
+
+pub returns-in_ok-resubmit-in-Resubmit-clause-known : goal.returns-in_ok-resubmit-in-Resubmit-clause-known
+returns-in_ok-resubmit-in-Resubmit-clause-known g c = c.in_ok-resubmit-in-Resubmit.ensures.known g.H.Hash160.naming c.args.book.now.held c.requires.known
+
+pub returns-in_ok-resubmit-in-Resubmit-clause-stands : goal.returns-in_ok-resubmit-in-Resubmit-clause-stands
+returns-in_ok-resubmit-in-Resubmit-clause-stands g c = λ r namings events ring h may.
+    let may2 = subst (λ (e : Event). MayHappen r (world r events) (event_of r (world r events) e)) c.in-Resubmit.is may in
+    subst (λ (e : Event). WorldStands g.N.Node.stands r namings c.resubmit.new.self (event_of r (world r events) e ∷ events)) (sym c.in-Resubmit.is)
+    (record {
+      is = subst (IsWorld g.N.Node.stands r namings c.resubmit.new.self _) (sym (append-nil (deliveries r events)))
+          (c.in_ok-resubmit-in-Resubmit.ensures.ok g.H.Hash160.naming r namings (world r events) (deliveries r events) ring h.is (all_in_order r events h.legal));
+      legal = (may2, h.legal);
+    })
+
+pub returns-in_ok-there-in-Deliver-clause-there : goal.returns-in_ok-there-in-Deliver-clause-there
+returns-in_ok-there-in-Deliver-clause-there g c = λ r namings events ring h may.
+    let may2 = subst (λ (e : Event). MayHappen r (world r events) (event_of r (world r events) e)) c.in-Deliver.is may in
+    c.in_ok-there-in-Deliver.ensures.there r namings (world r events) (deliveries r events) ring h.is may2.0 may2.1 ∙ ap (λ (e : Event). is_there (world r events) (event_of r (world r events) e)) (sym c.in-Deliver.is)
+
+pub returns-in_ok-there-in-Deliver-clause-stands : goal.returns-in_ok-there-in-Deliver-clause-stands
+returns-in_ok-there-in-Deliver-clause-stands g c = λ r namings events ring h may.
+    let may2 = subst (λ (e : Event). MayHappen r (world r events) (event_of r (world r events) e)) c.in-Deliver.is may in
+    subst (λ (e : Event). WorldStands g.N.Node.stands r namings c.deliver.new.self (event_of r (world r events) e ∷ events)) (sym c.in-Deliver.is)
+    (record { is = c.in_ok-there-in-Deliver.ensures.ok r namings (world r events) (deliveries r events) ring h.is may2.0 may2.1; legal = (may2, h.legal) })
+
+pub returns-in_ok-there-in-Deliver-clause-names : goal.returns-in_ok-there-in-Deliver-clause-names
+returns-in_ok-there-in-Deliver-clause-names g c = λ r namings events ring h may.
+    let may2 = subst (λ (e : Event). MayHappen r (world r events) (event_of r (world r events) e)) c.in-Deliver.is may in
+    subst (λ (e : Event). Names {X = ℕ} g.H.Hash160.naming (strings_of r namings (world r events) e) c.args.book.now.held c.deliver.new.book.held (Ok 0)) (sym c.in-Deliver.is)
+    (c.in_ok-there-in-Deliver.ensures.names r namings (world r events) (deliveries r events) ring h.is may2.0 may2.1)
+
+pub returns-in_ok-forge-in-Forge-clause-known : goal.returns-in_ok-forge-in-Forge-clause-known
+returns-in_ok-forge-in-Forge-clause-known g c = c.in_ok-forge-in-Forge.ensures.known g.H.Hash160.naming c.args.book.now.held c.requires.known
+
+pub returns-in_ok-forge-in-Forge-clause-stands : goal.returns-in_ok-forge-in-Forge-clause-stands
+returns-in_ok-forge-in-Forge-clause-stands g c = λ r namings events ring h may.
+    let may2 = subst (λ (e : Event). MayHappen r (world r events) (event_of r (world r events) e)) c.in-Forge.is may in
+    subst (λ (e : Event). WorldStands g.N.Node.stands r namings c.forge.new.self (event_of r (world r events) e ∷ events)) (sym c.in-Forge.is)
+    (record {
+      is = subst (IsWorld g.N.Node.stands r namings c.forge.new.self _) (sym (append-nil (deliveries r events))) (c.in_ok-forge-in-Forge.ensures.ok g.H.Hash160.naming r namings (world r events) (deliveries r events) ring h.is);
+      legal = (may2, h.legal);
+    })

@@ -1,0 +1,40 @@
+-- The members of a ring with their nodes.
+use Rattle.std.specs.Prelude.{◌≡◌, ℕ, ◌+◌, ◌*◌, ◌<◌, Bool, false, cond, List, [], ◌∷◌, length, slice_index_or}
+use Rattle.block_names.specs.Held.{Held}
+use Rattle.pond_base.specs.declared.numbers.Party.{Party as Sender}
+use Rattle.ring_model.specs.Messages.{Ring, Letter, Packet, Party, Member, Client, same_party}
+use Rattle.ring_model.specs.Member.{causes}
+use Rattle.ring_model.specs.World.{IsParty}
+use Rattle.message_model.specs.Meaning.{who}
+use Rattle.message_model.specs.Reading.{IsRingOf}
+use Rattle.ring_node.specs.Naming.{Namings, strings_for}
+use Rattle.ring_world.specs.declared.members.Members.{Members}
+use Rattle.ring_world.specs.Standing.{Standing, Knowing}
+
+-- the flags tell who is faulty, and each correct member's node stands for what was delivered to it
+pub record AreMembers {N : Type 0} (stands : Standing N) (g : Ring) (namings : Namings) (m : Members N) (got : Party → List Letter) : Type 0 where
+  pub count : length m.nodes.items ≡ 3 * g.f + 1
+  pub faulty_are : (i : ℕ) (d : Bool) → i < 3 * g.f + 1 → slice_index_or m.faulty.items i d ≡ g.is_faulty i
+  pub nodes_stand : (i : ℕ) (d : N) → i < 3 * g.f + 1 → g.is_faulty i ≡ false → stands (slice_index_or m.nodes.items i d) g namings i (got (Member i))
+
+-- what is held has all that the nodes named
+abbrev pub NodesKnown : {N : Type 0} → Knowing N → (List ℕ → List ℕ) → Held → Members N → Type 0
+NodesKnown {N} knows h held m = (i : ℕ) (d : N) → i < length m.nodes.items → knows h held (slice_index_or m.nodes.items i d)
+
+-- what was delivered, with a letter more to this party
+abbrev pub with_letter : (Party → List Letter) → Party → Letter → Party → List Letter
+with_letter got to l p = cond (same_party to p) (l ∷ got p) (got p)
+
+-- the messages that a member owes for a letter more: a faulty one owes none
+abbrev pub owed_for : Ring → ℕ → List Letter → Letter → List Packet
+owed_for g i got l = cond (g.is_faulty i) [] (causes g i got (l ∷ got))
+
+-- the strings that a party names for a letter more: clients and faulty members name none
+abbrev pub named_for : Ring → Namings → Party → List Letter → Letter → List (List ℕ)
+named_for g namings (Member i) got l = cond (g.is_faulty i) [] (strings_for g namings got l)
+named_for g namings (Client c) got l = []
+
+-- whatever was delivered before, a fact holds of it where the sender of a letter and its receiver are declared
+abbrev pub ForLetter : {N : Type 0} → Standing N → (List ℕ → List ℕ) → Members N → Sender → ℕ → (Ring → Namings → (Party → List Letter) → Type 0) → Type 0
+ForLetter stands h m from to P =
+    (g : Ring) (namings : Namings) (got : Party → List Letter) → IsRingOf h g → IsParty g (who from) → to < 3 * g.f + 1 → AreMembers stands g namings m got → P g namings got

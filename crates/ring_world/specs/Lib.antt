@@ -1,0 +1,11 @@
+pub mod Bests
+pub mod Bound
+pub mod Conditions
+pub mod Crew
+pub mod Deliveries
+pub mod Named
+pub mod Settles
+pub mod Skipping
+pub mod Standing
+pub mod Steps
+pub mod Worlds

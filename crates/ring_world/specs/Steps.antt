@@ -1,0 +1,59 @@
+-- What a step asks and answers.
+use Rattle.std.specs.Prelude.{◌≡◌, ◌≢◌, ℕ, ◌+◌, ◌-◌, ◌<◌, ◌≤◌, List, length, slice_index_or, slice_get, Vec, Bool, true, false, cond, is_some, Some, filter, ◌==◌, Result, Ok, Err, IsTrue}
+use Rattle.std.specs.declared.alloc.Global.{Global}
+use Rattle.std.specs.FinMap as map
+use Rattle.block_names.specs.Held.{Held}
+use Rattle.block_names.specs.declared.fault.StepFault.{StepFault}
+use Rattle.block_names.specs.declared.fault.StepFault.TheVariants.{Clash, Ended, Memory}
+use Rattle.guarded_update.specs.Fitting.{update_fits}
+use Rattle.ring_model.specs.Messages.{Ring, Member as member, Packet}
+use Rattle.ring_model.specs.World as model
+use Rattle.ring_model.specs.World.{World as Model, between, happens}
+use Rattle.message_model.specs.Meaning.{who}
+use Rattle.ring_mail.specs.Seats.{IsSeat}
+use Rattle.ring_world.specs.declared.asked.Asked.{Asked}
+use Rattle.ring_world.specs.declared.state.World.{World}
+use Rattle.ring_world.specs.declared.event.Event.{Event}
+use Rattle.ring_world.specs.declared.event.Event.TheVariants.{Submit, Resubmit, Deliver, Forge}
+use Rattle.ring_world.specs.declared.said.Said.{Said}
+use Rattle.ring_world.specs.declared.said.Said.TheVariants.{Nothing, Sent}
+
+-- a client of the world
+abbrev pub IsClient : {N : Type 0} → World N → ℕ → Type 0
+IsClient w c = (c < 16) × (c < length w.requests.items)
+
+-- an update is within the limits and its client has a number left, a resubmitted number was submitted, places count from 1, and parties have seats
+abbrev pub IsStep : {N : Type 0} → World N → Event → Type 0
+IsStep w (Submit c label update) = IsClient w c.0 × ((d : Vec Asked Global) → length (slice_index_or w.requests.items c.0 d).items < 65536) × IsTrue (update_fits update)
+IsStep w (Resubmit c n) = IsClient w c.0 × (0 < n) × ((d : Vec Asked Global) → n ≤ length (slice_index_or w.requests.items c.0 d).items)
+IsStep w (Deliver p q k) = 0 < k
+IsStep w (Forge i q bytes) = IsSeat (member i.0) × IsSeat (who q)
+
+-- whether an event finds what it needs: a delivery its message
+abbrev pub is_there : Model → model.Event → Bool
+is_there v (model.Event.Deliver p q k) = is_some (slice_get (between p q v.sent) k)
+is_there v _ = true
+
+abbrev pub said_by : Bool → List Packet → List Packet → Said
+said_by there before after = cond there (Sent (length after - length before)) Nothing
+
+-- Nothing for a message that was not sent, else how many messages were added
+abbrev pub said_of : Ring → Model → model.Event → Said
+said_of g v e = said_by (is_there v e) v.sent (happens g v e).sent
+
+-- the fault is Ended exactly where the world had ended, and a world that answers another fault has ended
+abbrev pub Ends : {N X : Type 0} → World N → World N → Result X StepFault → Type 0
+Ends old new (Ok x) = (old.ended ≡ false) × (new.ended ≡ false)
+Ends old new (Err Ended) = (old.ended ≡ true) × (new ≡ old)
+Ends old new (Err (Clash one other)) = (old.ended ≡ false) × (new.ended ≡ true)
+Ends old new (Err Memory) = (old.ended ≡ false) × (new.ended ≡ true)
+
+-- a clash is of a string of a kind with a different one of its name that is held
+abbrev pub IsStepClash : (List ℕ → List ℕ) → Held → (List ℕ → Type 0) → StepFault → Type 0
+IsStepClash h held Of (Clash old new) = (map.get held (h new) ≡ Some old) × (old ≢ new) × Of new
+IsStepClash h held Of Ended = Unit {0}
+IsStepClash h held Of Memory = Unit {0}
+
+-- the requests of a client are numbered 1, 2, and so on
+abbrev pub InOrder : Ring → List (List ℕ) → Type 0
+InOrder g submits = (c k : ℕ) (r : List ℕ) → slice_get (filter (λ t. g.owner t == c) submits) k ≡ Some r → g.number r ≡ k + 1

@@ -1,0 +1,101 @@
+-- A world of nodes, and the events that it stands for.
+use Rattle.std.specs.Prelude.{◌≡◌, ℕ, ◌+◌, ◌-◌, ◌*◌, ◌<◌, ◌≤◌, Bool, false, ◌==◌, List, [], ◌∷◌, map, filter, length, count_by, slice_get, slice_index_or, Vec}
+use Rattle.std.specs.List.{AllByRecursion, range_with_len}
+use Rattle.std.specs.declared.alloc.Global.{Global}
+use Rattle.circular_buffer.specs.Buffer.{keep_last}
+use Rattle.block_names.specs.Held.{Held}
+use Rattle.block_names.specs.Growth.{Holds}
+use Rattle.guarded_update.specs.declared.request.Request.{Request as Asking}
+use Rattle.guarded_update.specs.declared.update.Update.{Update}
+use Rattle.guarded_update.specs.Spelling.{request_string}
+use Rattle.tree_format.specs.Strings.{label_string}
+use Rattle.ring_model.specs.Messages.{Ring, Request, Packet, Member as member, Client as client}
+use Rattle.ring_model.specs.World as model
+use Rattle.ring_model.specs.World.{World as Model, world, IsLegal, MayHappen, between}
+use Rattle.message_model.specs.Meaning.{who, meaning}
+use Rattle.message_model.specs.Reading.{IsRingOf}
+use Rattle.ring_node.specs.Naming.{Namings}
+use Rattle.ring_mail.specs.Places.{Place, packet_of}
+use Rattle.ring_mail.specs.Mails.{IsMail}
+use Rattle.ring_world.specs.declared.asked.Asked.{Asked}
+use Rattle.ring_world.specs.declared.event.Event.{Event}
+use Rattle.ring_world.specs.declared.event.Event.TheVariants.{Submit, Resubmit, Deliver, Forge}
+use Rattle.ring_world.specs.declared.state.World.{World}
+use Rattle.ring_world.specs.Standing.{Standing, Knowing}
+use Rattle.ring_world.specs.Crew.{AreMembers, NodesKnown}
+use Rattle.ring_world.specs.Deliveries.{deliveries, named_of}
+use Rattle.ring_world.specs.Skipping.{told, counted}
+
+-- a ring within the limits
+pub record IsSmall (g : Ring) : Type 0 where
+  pub few : g.f ≤ 3
+  pub few_clients : g.clients ≤ 16
+  pub slots : g.slots ≡ 65536
+
+-- these are the strings of the requests, and each message means its request
+pub record AreAsked (asked : List Asked) (texts : List (List ℕ)) : Type 0 where
+  pub texts_are : map (λ (a : Asked). a.text) asked ≡ texts
+  pub mean : AllByRecursion (λ (a : Asked). meaning a.message ≡ Request a.text) asked
+
+-- what is kept is this world of the model, with these deliveries
+pub record IsWorld {N : Type 0} (stands : Standing N) (g : Ring) (namings : Namings) (w : World N) (v : Model) (done : List Place) : Type 0 where
+  pub small : IsSmall g
+  pub mail_is : IsMail w.mail v.sent done
+  pub members_are : AreMembers stands g namings w.members v.got
+  pub askers : length w.requests.items ≡ g.clients
+  pub requests_are : (c : ℕ) (d : Vec Asked Global) → c < g.clients → AreAsked (slice_index_or w.requests.items c d).items (filter (λ r. g.owner r == c) v.submits)
+  pub recent_is : map told w.recent.items ≡ map counted (keep_last 8 done)
+  pub eight : w.recent.capacity ≡ 8
+  pub going : w.ended ≡ false
+
+-- The world stands for these events, the newest first. An ended world stands for nothing.
+pub record WorldStands {N : Type 0} (stands : Standing N) (g : Ring) (namings : Namings) (w : World N) (events : List model.Event) : Type 0 where
+  pub is : IsWorld stands g namings w (world g events) (deliveries g events)
+  pub legal : IsLegal g events
+
+-- what is held has all that the world named: what its nodes named, and each submitted request
+pub record IsKnown {N : Type 0} (knows : Knowing N) (h : List ℕ → List ℕ) (held : Held) (w : World N) : Type 0 where
+  pub nodes : NodesKnown knows h held w.members
+  pub requests : (c : ℕ) (d : Vec Asked Global) → c < length w.requests.items → AllByRecursion (λ (a : Asked). Holds h held a.text) (slice_index_or w.requests.items c d).items
+
+-- the client's next request, of this label and update
+abbrev pub next_request : Ring → Model → ℕ → List ℕ → Update → Asking
+next_request g v c label update = record { client = record { 0 = c }; number = count_by (λ r. g.owner r == c) v.submits + 1; label = label; update = update }
+
+-- the event of the model, whose places count from 0
+abbrev pub event_of : Ring → Model → Event → model.Event
+event_of g v (Submit c label update) = model.Event.Submit (request_string (next_request g v c.0 label update))
+event_of g v (Resubmit c n) = model.Event.Resubmit c.0 n
+event_of g v (Deliver p q k) = model.Event.Deliver (who p) (who q) (k - 1)
+event_of g v (Forge i q bytes) = model.Event.Forge i.0 (who q) (meaning bytes)
+
+-- the strings that an event names: a submit the label's string and the request, a delivery those of its receiver
+abbrev pub strings_of : Ring → Namings → Model → Event → List (List ℕ)
+strings_of g namings v (Submit c label update) = label_string label ∷ request_string (next_request g v c.0 label update) ∷ []
+strings_of g namings v (Resubmit c n) = []
+strings_of g namings v (Deliver p q k) = named_of g namings v (slice_get (between (who p) (who q) v.sent) (k - 1))
+strings_of g namings v (Forge i q bytes) = []
+
+-- a client's message to each of n members
+abbrev pub asks_of : ℕ → ℕ → List ℕ → List Packet
+asks_of n c bytes = map (λ j. packet_of (client c) (member j) bytes) (range_with_len 0 n)
+
+-- whatever world of the model is kept, a fact holds of it
+abbrev pub ForWorld : {N : Type 0} → Standing N → (List ℕ → List ℕ) → World N → (Ring → Namings → Model → List Place → Type 0) → Type 0
+ForWorld stands h w P = (g : Ring) (namings : Namings) (v : Model) (done : List Place) → IsRingOf h g → IsWorld stands g namings w v done → P g namings v done
+
+-- whatever events the world stands for, a fact holds of them
+abbrev pub ForEvents : {N : Type 0} → Standing N → (List ℕ → List ℕ) → World N → (Ring → Namings → List model.Event → Type 0) → Type 0
+ForEvents stands h w P = (g : Ring) (namings : Namings) (events : List model.Event) → IsRingOf h g → WorldStands stands g namings w events → P g namings events
+
+-- whatever events the world stands for, a fact holds of them where the next one may happen
+abbrev pub ForStep : {N : Type 0} → Standing N → (List ℕ → List ℕ) → World N → Event → (Ring → Namings → List model.Event → Type 0) → Type 0
+ForStep stands h w event P = ForEvents stands h w (λ g namings events. MayHappen g (world g events) (event_of g (world g events) event) → P g namings events)
+
+-- the nodes are those of the ring, before any letter
+pub record IsStart {N : Type 0} (stands : Standing N) (g : Ring) (namings : Namings) (nodes : List N) (faulty : List Bool) (clients : ℕ) : Type 0 where
+  pub small : IsSmall g
+  pub count : length nodes ≡ 3 * g.f + 1
+  pub faulty_are : (i : ℕ) (d : Bool) → i < 3 * g.f + 1 → slice_index_or faulty i d ≡ g.is_faulty i
+  pub nodes_stand : (i : ℕ) (d : N) → i < 3 * g.f + 1 → g.is_faulty i ≡ false → stands (slice_index_or nodes i d) g namings i []
+  pub clients_are : clients ≡ g.clients

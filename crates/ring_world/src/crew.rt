@@ -1,0 +1,56 @@
+// What members do with letters.
+ghost use Rattle.std.specs.Prelude.{◌≡◌, List, map, OnOk, IfOk, true, false, slice_index_or, length};
+ghost use Rattle.std.specs.List.{AllByRecursion, list_all};
+ghost use Rattle.cow_tree.specs.Laws.{Keeps};
+ghost use Rattle.ring_model.specs.Messages.{Member as member};
+ghost use Rattle.message_model.specs.Meaning.{who, letter, packet};
+ghost use Rattle.ring_mail.specs.Seats.{IsSeat};
+ghost use Rattle.ring_world.specs.Crew.{AreMembers, NodesKnown, ForLetter, with_letter, owed_for, named_for};
+ghost use Rattle.ring_world.specs.Named.{Names};
+
+use crate::members::Members;
+use block_names::{Book, Hash160, NameFault};
+use bytes::Bytes;
+use pond_base::{MemberId, Party};
+use ring_message::Out;
+use ring_node::Node;
+use std::alloc::Global;
+
+impl<N: Node> Members<N> {
+    // Hands bytes to a member, and gives all that it sends. A faulty one does nothing.
+    pub(crate) fn take<H: Hash160 + Drop>(
+        &mut self,
+        alloc: Global,
+        book: &mut Book<H>,
+        to: MemberId,
+        from: Party,
+        bytes: &Bytes,
+    ) -> Result<Vec<Out>, NameFault>
+        requires { NodesKnown N.knows H.naming book.old.held self.old }
+        ensures members { OnOk result (ForLetter N.stands H.naming self.old from to.0 (λ g namings got. AreMembers N.stands g namings self.new (with_letter got (member to.0) (letter from bytes.now)))) }
+        ensures out { IfOk result (λ out. ForLetter N.stands H.naming self.old from to.0 (λ g namings got. map (packet to.0) out.items ≡ owed_for g to.0 (got (member to.0)) (letter from bytes.now))) }
+        ensures seats { IfOk result (λ out. AllByRecursion (λ o. IsSeat (who o.to)) out.items) }
+        ensures known { OnOk result (NodesKnown N.knows H.naming book.new.held self.new) }
+        ensures keeps { Keeps book.old.held book.new.held }
+        ensures names { ForLetter N.stands H.naming self.old from to.0 (λ g namings got. Names H.naming (named_for g namings (member to.0) (got (member to.0)) (letter from bytes.now)) book.old.held book.new.held result) }
+    {
+        let at = to.0 as usize;
+        if at >= self.faulty.len() || self.faulty[at] {
+            return Ok(Vec::new(alloc));
+        }
+        let out = self.nodes[at].take(book, from, bytes)?;
+        Ok(out)
+    }
+}
+
+// The number of the first member that is correct, where there is one.
+pub(crate) fn first_correct(faulty: &[bool]) -> usize
+    requires { list_all (λ b. b) faulty.now ≡ false }
+    ensures { slice_index_or faulty.now result true ≡ false }
+{
+    let mut at = 0;
+    while at < faulty.len() && faulty[at] {
+        at += 1;
+    }
+    at
+}

@@ -1,0 +1,117 @@
+// The events of a world, and its end.
+ghost use Rattle.std.specs.Prelude.{◌≡◌, ℕ, List, ◌∷◌, [], length, Contains, OnOk, IfOk, IfErr, true, Result};
+ghost use Rattle.block_names.specs.Growth.{keep_all, Grew};
+ghost use Rattle.block_names.specs.Faults.{step_fault};
+ghost use Rattle.cow_tree.specs.Laws.{Keeps};
+ghost use Rattle.ring_model.specs.Messages.{FewFaulty, Packet};
+ghost use Rattle.ring_model.specs.World.{world, chosen};
+ghost use Rattle.ring_model.specs.Laws.{IsPrefix, NoClash};
+ghost use Rattle.ring_world.specs.Named.{Names};
+ghost use Rattle.ring_world.specs.Steps.{IsStep, IsStepClash, Ends, is_there, said_by, said_of};
+ghost use Rattle.ring_world.specs.Worlds.{WorldStands, IsKnown, ForStep, event_of, strings_of};
+
+use crate::event::Event;
+use crate::said::Said;
+use crate::state::World;
+use block_names::{Book, Hash160, NameFault, StepFault};
+use ring_mail::Note;
+use ring_model::grows;
+use ring_node::Node;
+
+impl<N: Node> World<N> {
+    // Does the event, and answers whether there was something to do.
+    fn happen<H: Hash160 + Drop>(
+        &mut self,
+        book: &mut Book<H>,
+        event: Event,
+    ) -> Result<bool, NameFault>
+        requires step { IsStep self.old event }
+        requires known { IsKnown N.knows H.naming book.old.held self.old }
+        ensures going { self.new.ended ≡ self.old.ended }
+        ensures known { OnOk result (IsKnown N.knows H.naming book.new.held self.new) }
+        ensures keeps { Keeps book.old.held book.new.held }
+        ensures there { IfOk result (λ there. ForStep N.stands H.naming self.old event (λ g namings events. there ≡ is_there (world g events) (event_of g (world g events) event))) }
+        ensures stands { OnOk result (ForStep N.stands H.naming self.old event (λ g namings events. WorldStands N.stands g namings self.new (event_of g (world g events) event ∷ events))) }
+        ensures names { ForStep N.stands H.naming self.old event (λ g namings events. Names H.naming (strings_of g namings (world g events) event) book.old.held book.new.held result) }
+    {
+        match event {
+            Event::Submit {
+                client,
+                label,
+                update,
+            } => {
+                self.submit(book, client, label, update)?;
+                Ok(true)
+            }
+            Event::Resubmit { client, number } => {
+                self.resubmit(client, number)?;
+                Ok(true)
+            }
+            Event::Deliver { from, to, place } => {
+                let note = Note {
+                    from,
+                    to,
+                    place: place - 1,
+                };
+                let there = self.deliver(book, note)?;
+                Ok(there)
+            }
+            Event::Forge { member, to, bytes } => {
+                self.forge(member, to, bytes)?;
+                Ok(true)
+            }
+        }
+    }
+
+    /// Does the next event. The caller keeps the list of events legal: parties are declared, a forger is
+    /// faulty, and a resubmitted number was submitted. `Ended` is answered exactly where an earlier call
+    /// answered another fault, and then nothing changes; after any other fault the world has ended.
+    pub fn step<H: Hash160 + Drop>(
+        &mut self,
+        book: &mut Book<H>,
+        event: Event,
+    ) -> Result<Said, StepFault>
+        requires step { IsStep self.old event }
+        requires known { IsKnown N.knows H.naming book.old.held self.old }
+        ensures stands { OnOk result (ForStep N.stands H.naming self.old event (λ g namings events. WorldStands N.stands g namings self.new (event_of g (world g events) event ∷ events))) }
+        ensures said { IfOk result (λ said. ForStep N.stands H.naming self.old event (λ g namings events. said ≡ said_of g (world g events) (event_of g (world g events) event))) }
+        ensures grows { OnOk result (ForStep N.stands H.naming self.old event (λ g namings events. FewFaulty g → NoClash g (world g (event_of g (world g events) event ∷ events)).submits
+            → IsPrefix (chosen g (world g events)) (chosen g (world g (event_of g (world g events) event ∷ events))))) }
+        ensures ends { Ends self.old self.new result }
+        ensures known { OnOk result (IsKnown N.knows H.naming book.new.held self.new) }
+        ensures keeps { Keeps book.old.held book.new.held }
+        ensures spent { self.old.ended ≡ true → book.new ≡ book.old }
+        ensures held { OnOk result (ForStep N.stands H.naming self.old event (λ g namings events. book.new.held ≡ keep_all H.naming (strings_of g namings (world g events) event) book.old.held)) }
+        ensures grew { ForStep N.stands H.naming self.old event (λ g namings events. Grew H.naming book.old.held (Contains (strings_of g namings (world g events) event)) book.new.held) }
+        ensures fault { IfErr result (λ fault. ForStep N.stands H.naming self.old event (λ g namings events. IsStepClash H.naming book.new.held (Contains (strings_of g namings (world g events) event)) fault)) }
+    {
+        grows();
+        if self.ended {
+            return Err(StepFault::Ended);
+        }
+        let before = self.mail.count();
+        match self.happen(book, event) {
+            Ok(there) => Ok(tell(there, before, self.mail.count())),
+            Err(fault) => Err(self.end(fault)),
+        }
+    }
+
+    // Ends the world at a fault.
+    pub(crate) fn end(&mut self, fault: NameFault) -> StepFault
+        ensures ended { self.new.ended ≡ true }
+        ensures fault { result ≡ step_fault fault }
+    {
+        self.ended = true;
+        StepFault::from(fault)
+    }
+}
+
+fn tell(there: bool, before: u32, after: u32) -> Said
+    ensures { (xs ys : List Packet) → before ≡ length xs → after ≡ length ys → result ≡ said_by there xs ys }
+{
+    if there {
+        Said::Sent(after.saturating_sub(before))
+    } else {
+        Said::Nothing
+    }
+}
