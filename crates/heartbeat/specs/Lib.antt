@@ -1,0 +1,4 @@
+pub mod Votes
+pub mod Boards
+pub mod Newest
+pub mod Joins

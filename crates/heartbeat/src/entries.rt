@@ -1,0 +1,82 @@
+// What is kept for each version of an object.
+ghost use Rattle.std.specs.Prelude.{◌≡◌, ◌<◌, ℕ, List, Some, None, All, OnOk, OnErr};
+ghost use Rattle.std.specs.Option.{option_or};
+ghost use Rattle.heartbeat.specs.Votes.{value_for, said_of, believed_then};
+ghost use Rattle.heartbeat.specs.Boards.{key_of, kept_at, first_at, value_at};
+ghost use Rattle.heartbeat.specs.Newest.{later_of, newest_among};
+
+use crate::entry::Entry;
+use pond_base::{MemberId, Name, OutOfMemory, Version};
+use std::collections::BTreeMap;
+
+pub type Entries = BTreeMap<(Name, Version), Entry>;
+
+/// What is kept for a version, an entry without votes where nothing is.
+fn entry_of(entries: &Entries, object: Name, version: Version) -> Entry
+    ensures first { (j : ℕ) → first_at (Some result) j ≡ first_at (kept_at entries.now.entries (key_of object version.0)) j }
+    ensures accepted { value_at (Some result) ≡ value_at (kept_at entries.now.entries (key_of object version.0)) }
+{
+    match entries.get(&(object, version)) {
+        Some(entry) => *entry,
+        None => Entry::new(),
+    }
+}
+
+/// Counts a member's vote for a version, and accepts its value where it is the first with so many
+/// votes.
+pub fn take(
+    entries: &mut Entries,
+    need: u32,
+    member: MemberId,
+    object: Name,
+    version: Version,
+    value: Name,
+) -> Result<(), OutOfMemory>
+    requires { member.0 < 10 }
+    ensures first { OnOk result ((o : List ℕ) (v j : ℕ) → first_at (kept_at entries.new.entries (key_of o v)) j ≡ option_or (first_at (kept_at entries.old.entries (key_of o v)) j) (said_of o v j (record { member = member.0; object = object; version = version.0; value = value }))) }
+    ensures accepted { OnOk result ((o : List ℕ) (v : ℕ) → value_at (kept_at entries.new.entries (key_of o v)) ≡ believed_then need (value_at (kept_at entries.old.entries (key_of o v))) (first_at (kept_at entries.new.entries (key_of o v))) (value_for o v (record { member = member.0; object = object; version = version.0; value = value }))) }
+    ensures memory { OnErr result (kept_at entries.old.entries (key_of object version.0) ≡ None) }
+    ensures err { OnErr result (entries.new.entries ≡ entries.old.entries) }
+{
+    let mut entry = entry_of(entries, object, version);
+    entry.cast(need, member, value);
+    match entries.insert((object, version), entry) {
+        Ok(_) => Ok(()),
+        Err(_) => Err(OutOfMemory),
+    }
+}
+
+/// The later of what was found before and what an entry has accepted for the object.
+fn later(
+    before: Option<(Version, Name)>,
+    object: Name,
+    key: (Name, Version),
+    entry: Entry,
+) -> Option<(Version, Name)>
+    ensures { result ≡ later_of object before (key, entry) }
+{
+    let Some(value) = entry.accepted else {
+        return before;
+    };
+    let is_later = match before {
+        Some((earlier, _)) => earlier <= key.1,
+        None => true,
+    };
+    if key.0 == object && is_later {
+        Some((key.1, value))
+    } else {
+        before
+    }
+}
+
+/// The greatest version of an object with an accepted value, and this value.
+pub fn newest_in(entries: &Entries, object: Name) -> Option<(Version, Name)>
+    ensures value { result ≡ newest_among object None entries.now.entries }
+    ensures found { All (λ e. kept_at entries.now.entries e.0 ≡ Some e.1) entries.now.entries }
+{
+    let mut newest: Option<(Version, Name)> = None;
+    for (key, entry) in entries.iter() {
+        newest = later(newest, object, *key, *entry);
+    }
+    newest
+}
