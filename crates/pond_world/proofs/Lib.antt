@@ -1,0 +1,4 @@
+pub mod Made
+pub mod Flags
+pub mod Sites
+pub mod Coming

@@ -1,0 +1,29 @@
+-- Sites after their calls.
+use Rattle.std.proofs.Common.{◌≡◌, ℕ, List, get_or, refl, subst}
+use Rattle.block_names.specs.Held.{Held}
+use Rattle.block_names.specs.Faults.{step_fault}
+use Rattle.block_names.specs.Growth.{IsClashIn}
+use Rattle.block_names.specs.declared.fault.NameFault.{NameFault}
+use Rattle.block_names.specs.declared.fault.NameFault.TheVariants.{Clash, Memory}
+use Rattle.block_names.specs.declared.fault.StepFault.{StepFault}
+use Rattle.cow_tree.specs.Laws.{Keeps}
+use Rattle.pond_node.specs.declared.node.Node.{Node}
+use Rattle.pond_node.specs.Standing as node
+use Rattle.ring_world.specs.declared.state.World.{World}
+use Rattle.ring_world.specs.Steps.{IsStepClash}
+use Rattle.ring_world.specs.Worlds.{IsKnown}
+use Rattle.ring_world.proofs.Requests.{known_still}
+use Rattle.pond_world.proofs.Made.{node_known}
+
+-- what a world named stays known while the book grows
+pub world_known : (h : List ℕ → List ℕ) (held now : Held) (w : World Node) → Keeps held now → IsKnown node.IsKnown h held w → IsKnown node.IsKnown h now w
+world_known h held now w keeps k =
+    known_still node.IsKnown h held now w w refl (λ i d low. node_known h held now (get_or w.members.nodes.items i d) keeps (k.nodes i d low)) keeps k
+
+clash_back : (h : List ℕ → List ℕ) (now : Held) (Of : List ℕ → Type 0) (fault : NameFault) → IsStepClash h now Of (step_fault fault) → IsClashIn h now Of fault
+clash_back h now Of (Clash old new) clash = clash
+clash_back h now Of Memory clash = tt
+
+-- the fault of a step is one of naming
+pub named_clash : (h : List ℕ → List ℕ) (now : Held) (Of : List ℕ → Type 0) (fault : NameFault) (stepped : StepFault) → stepped ≡ step_fault fault → IsStepClash h now Of stepped → IsClashIn h now Of fault
+named_clash h now Of fault stepped is clash = clash_back h now Of fault (subst (IsStepClash h now Of) is clash)

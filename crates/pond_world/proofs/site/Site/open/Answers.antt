@@ -1,0 +1,12 @@
+use Rattle.std.proofs.Common.{[], Contains, subst}
+use Rattle.object_model.specs.Trees.{version_strings}
+use Rattle.pond_world.specs.Sites.{IsClashAfter}
+use Rattle.pond_world.proofs.site.Site.open.Goals as goal
+
+pub invariant_of-result : goal.invariant_of-result
+invariant_of-result g c = record { known = c.in-Ok.ensures.known; going = (c.in-Ok.ensures.stands (λ object versions. [])).is.going }
+
+pub returns-in-Err-clause-fault : goal.returns-in-Err-clause-fault
+returns-in-Err-clause-fault g c =
+    subst (λ held. IsClashAfter g.H.Hash160.naming held (Contains (version_strings g.H.Hash160.naming c.args.setup.now.block [] [])) c.in-Err.fault) c.new-book.ensures.held
+    (c.open.new.book.held, c.in-Err.ensures.grew, c.in-Err.ensures.fault)

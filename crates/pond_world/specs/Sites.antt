@@ -1,0 +1,23 @@
+-- A world with its book.
+use Rattle.std.specs.Prelude.{◌≡◌, ℕ, false, List}
+use Rattle.block_names.specs.Held.{Held}
+use Rattle.block_names.specs.Growth.{Grew, IsClashIn}
+use Rattle.block_names.specs.declared.fault.NameFault.{NameFault}
+use Rattle.ring_world.specs.declared.state.World.{World}
+use Rattle.ring_world.specs.Worlds.{IsKnown}
+use Rattle.pond_node.specs.declared.node.Node.{Node}
+use Rattle.pond_node.specs.Standing as node
+
+-- a site: what its book holds, and its world
+pub record SiteView : Type 0 where
+  pub held : Held
+  pub world : World Node
+
+-- each site: its book holds all that its world named, and no call has failed
+pub record IsSite (h : List ℕ → List ℕ) (site : SiteView) : Type 0 where
+  pub known : IsKnown node.IsKnown h site.held site.world
+  pub going : site.world.ended ≡ false
+
+-- where some strings of a kind were named beside those that were held, a fault is a clash of a string of the kind with one that is held then
+abbrev pub IsClashAfter : (List ℕ → List ℕ) → Held → (List ℕ → Type 0) → NameFault → Type 0
+IsClashAfter h held Of fault = (now : Held) × Grew h held Of now × IsClashIn h now Of fault

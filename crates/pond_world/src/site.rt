@@ -1,0 +1,145 @@
+// A world with its book of names.
+ghost use Rattle.std.specs.Prelude.{◌≡◌, ◌≢◌, ℕ, List, [], ◌∷◌, ◌++◌, Contains, IfOk, IfErr};
+ghost use Rattle.std.specs.FinMap as map;
+ghost use Rattle.block_names.specs.Faults.{step_fault};
+ghost use Rattle.block_names.specs.Growth.{keep_all, Grew};
+ghost use Rattle.block_names.specs.declared.fault.StepFault.TheVariants.{Ended};
+ghost use Rattle.object_model.specs.Trees.{version_strings};
+ghost use Rattle.ring_model.specs.World.{world};
+ghost use Rattle.fold_model.specs.Folds.{Manifest, namings_by};
+ghost use Rattle.pond_node.specs.Standing as node;
+ghost use Rattle.pond_node.specs.Standing.{NodeStands};
+ghost use Rattle.ring_world.specs.Deliveries.{settled, named_along, IsNamedIn};
+ghost use Rattle.ring_world.specs.Settles.{Settles};
+ghost use Rattle.ring_world.specs.Skipping.{is_skipped};
+ghost use Rattle.ring_world.specs.Steps.{IsStep, said_of};
+ghost use Rattle.ring_world.specs.Worlds.{WorldStands, IsKnown, ForEvents, ForStep, event_of, strings_of};
+ghost use Rattle.pond_world.specs.Setups.{IsSetup, ring_by};
+ghost use Rattle.pond_world.specs.Sites.{IsClashAfter};
+
+use crate::opening::open;
+use block_names::{Book, Hash160, NameFault, StepFault};
+use guarded_update::Setup;
+use pond_node::Node;
+use ring_world::{Event, Said, Skips, World};
+use std::alloc::Global;
+use std::marker::Model;
+
+/// A world of members with their objects, and the book of all strings that were named. A call that
+/// fails ends the site.
+#[derive(Drop)]
+pub struct Site<H: Hash160 + Drop> {
+    book: Book<H>,
+    world: World<Node>,
+}
+
+impl<H: Hash160 + Drop> Model for Site<H> {
+    ghost use Rattle.std.specs.Coded.{codes};
+    ghost use Rattle.block_names.specs.Held.{coded_held};
+    ghost use Rattle.pond_node.specs.contracts.node.Node as member;
+    ghost use Rattle.ring_world.specs.contracts.state.World as ring;
+    ghost use Rattle.pond_world.specs.Sites.{SiteView, IsSite};
+
+    ghost Value = { SiteView };
+
+    ghost coded = { Prim.hlevel (codes, coded_held, (ring.the_row member.the_row).coded) };
+
+    ghost view = { λ site. record { held = site.book.held; world = site.world } };
+
+    ghost invariant = { λ site. IsSite H.naming (record { held = site.book.held; world = site.world }) };
+}
+
+impl<H: Hash160 + Drop> Site<H> {
+    /// The site of a setup before any event. The root string of the empty version is named.
+    pub fn open(alloc: Global, hash: H, setup: &Setup) -> Result<Site<H>, NameFault>
+        requires { IsSetup setup.now }
+        ensures stands { IfOk result (λ site. (manifest : Manifest) → WorldStands NodeStands (ring_by H.naming setup.now manifest) (namings_by H.naming setup.now.block) site.world []) }
+        ensures held { IfOk result (λ site. site.held ≡ keep_all H.naming (version_strings H.naming setup.now.block [] []) map.empty) }
+        ensures fault { IfErr result (IsClashAfter H.naming map.empty (Contains (version_strings H.naming setup.now.block [] []))) }
+    {
+        let mut book = Book::new(alloc, hash);
+        match open(alloc, &mut book, setup) {
+            Ok(world) => Ok(Site { book, world }),
+            Err(fault) => Err(fault),
+        }
+    }
+
+    /// The site after the next event, and what that did. The caller keeps the list of events legal.
+    pub fn step(self, event: Event) -> Result<(Site<H>, Said), NameFault>
+        requires { IsStep self.world event }
+        ensures stands { IfOk result (λ done. ForStep NodeStands H.naming self.world event (λ g namings events. WorldStands NodeStands g namings done.0.world (event_of g (world g events) event ∷ events))) }
+        ensures said { IfOk result (λ done. ForStep NodeStands H.naming self.world event (λ g namings events. done.1 ≡ said_of g (world g events) (event_of g (world g events) event))) }
+        ensures held { IfOk result (λ done. ForStep NodeStands H.naming self.world event (λ g namings events. done.0.held ≡ keep_all H.naming (strings_of g namings (world g events) event) self.held)) }
+        ensures grew { IfOk result (λ done. ForStep NodeStands H.naming self.world event (λ g namings events. Grew H.naming self.held (Contains (strings_of g namings (world g events) event)) done.0.held)) }
+        ensures fault { IfErr result (λ fault. ForStep NodeStands H.naming self.world event (λ g namings events. IsClashAfter H.naming self.held (Contains (strings_of g namings (world g events) event)) fault)) }
+    {
+        let Site {
+            mut book,
+            mut world,
+        } = self;
+        match world.step(&mut book, event) {
+            Ok(said) => Ok((Site { book, world }, said)),
+            Err(fault) => Err(cause_of(fault)),
+        }
+    }
+
+    /// The site after all that is pending was delivered and is not passed over, and how many messages
+    /// that were.
+    pub fn settle(self, skips: &Skips) -> Result<(Site<H>, u32), NameFault>
+        ensures settles { IfOk result (λ done. ForEvents NodeStands H.naming self.world (λ g namings events. Settles NodeStands g namings (is_skipped skips.now) events done.0.world done.1)) }
+        ensures held { IfOk result (λ done. ForEvents NodeStands H.naming self.world (λ g namings events.
+            done.0.held ≡ keep_all H.naming (named_along g namings events (settled g (is_skipped skips.now) events done.1)) self.held)) }
+        ensures grew { IfOk result (λ done. ForEvents NodeStands H.naming self.world (λ g namings events. Grew H.naming self.held (IsNamedIn g namings (is_skipped skips.now) events) done.0.held)) }
+        ensures fault { IfErr result (λ fault. ForEvents NodeStands H.naming self.world (λ g namings events. IsClashAfter H.naming self.held (IsNamedIn g namings (is_skipped skips.now) events) fault)) }
+    {
+        let Site {
+            mut book,
+            mut world,
+        } = self;
+        match world.settle(&mut book, skips) {
+            Ok(count) => Ok((Site { book, world }, count)),
+            Err(fault) => Err(cause_of(fault)),
+        }
+    }
+
+    /// The site after a string was named.
+    pub fn name(self, bytes: &[u8]) -> Result<Site<H>, NameFault>
+        ensures world { IfOk result (λ site. site.world ≡ self.world) }
+        ensures held { IfOk result (λ site. site.held ≡ map.insert self.held (H.naming bytes.now) bytes.now) }
+        ensures grew { IfOk result (λ site. Grew H.naming self.held (λ string. string ≡ bytes.now) site.held) }
+        ensures fault { IfErr result (IsClashAfter H.naming self.held (λ string. string ≡ bytes.now)) }
+    {
+        let Site { mut book, world } = self;
+        match book.name(bytes) {
+            Ok(_) => Ok(Site { book, world }),
+            Err(fault) => Err(fault),
+        }
+    }
+
+    /// The world. Its book holds all that it named, and it has not ended. Takes no memory.
+    pub fn world(&self) -> &World<Node>
+        ensures world { result.now ≡ self.now.world }
+        ensures known { IsKnown node.IsKnown H.naming self.now.held result.now }
+    {
+        &self.world
+    }
+
+    /// The book. Takes no memory.
+    pub fn book(&self) -> &Book<H>
+        ensures { result.now.held ≡ self.now.held }
+    {
+        &self.book
+    }
+}
+
+// Why a string is not named, where a world has not ended before.
+fn cause_of(fault: StepFault) -> NameFault
+    requires { fault ≢ Ended }
+    ensures { fault ≡ step_fault result }
+{
+    match fault {
+        StepFault::Clash { old, new } => NameFault::Clash { old, new },
+        StepFault::Ended => unreachable!(),
+        StepFault::Memory => NameFault::Memory,
+    }
+}
