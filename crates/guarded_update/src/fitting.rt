@@ -50,7 +50,8 @@ fn is_splice(action: &Action) -> bool
     matches!(action, Action::Splice { .. })
 }
 
-fn update_fits(update: &Update) -> bool
+/// Whether an update is within the limits of updates, as [`fits`] says them. Takes no memory.
+pub fn update_fits(update: &Update) -> bool
     ensures { result ≡ fit.update_fits update.now }
 {
     let clauses = update.clauses.as_slice();

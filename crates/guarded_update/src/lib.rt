@@ -23,7 +23,7 @@ mod tests;
 mod update;
 mod writing;
 
-pub use fitting::fits;
+pub use fitting::{fits, update_fits};
 pub use reading::{RequestFault, read};
 pub use request::Request;
 pub use setup::{Place, Setup};

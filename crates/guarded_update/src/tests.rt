@@ -59,6 +59,7 @@ fn the_first_append_of_client_0(rt: HostRuntime) -> Result<(), Fail> {
     assert_eq!(rt; hex::encode(alloc, string.as_slice())?.as_str(), APPEND);
     request.number = 0;
     assert!(rt; !fits(&request));
+    assert!(rt; update_fits(&request.update));
     request.number = 1;
     request.client = ClientId(16);
     assert!(rt; !fits(&request));

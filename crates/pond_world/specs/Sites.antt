@@ -3,6 +3,7 @@ use Rattle.std.specs.Prelude.{◌≡◌, ℕ, false, List}
 use Rattle.block_names.specs.Held.{Held}
 use Rattle.block_names.specs.Growth.{Grew, IsClashIn}
 use Rattle.block_names.specs.declared.fault.NameFault.{NameFault}
+use Rattle.cow_tree.specs.Laws.{Keeps}
 use Rattle.ring_world.specs.declared.state.World.{World}
 use Rattle.ring_world.specs.Worlds.{IsKnown}
 use Rattle.pond_node.specs.declared.node.Node.{Node}
@@ -21,3 +22,7 @@ pub record IsSite (h : List ℕ → List ℕ) (site : SiteView) : Type 0 where
 -- where some strings of a kind were named beside those that were held, a fault is a clash of a string of the kind with one that is held then
 abbrev pub IsClashAfter : (List ℕ → List ℕ) → Held → (List ℕ → Type 0) → NameFault → Type 0
 IsClashAfter h held Of fault = (now : Held) × Grew h held Of now × IsClashIn h now Of fault
+
+-- What a world named stays known while the book grows.
+abbrev pub WorldsStayKnown : Type 0
+WorldsStayKnown = (h : List ℕ → List ℕ) (held now : Held) (world : World Node) → Keeps held now → IsKnown node.IsKnown h held world → IsKnown node.IsKnown h now world

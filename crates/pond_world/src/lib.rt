@@ -7,13 +7,16 @@
 //! names. The layer above uses that the world of a new site stands for no events, and that whatever
 //! list of events it stood for, after [`Site::step`] it stands for that list and the event, and after
 //! [`Site::settle`] for that list and the deliveries that were pending. [`events_may_come`] says what a
-//! caller that keeps the list of events sees to.
+//! caller that keeps the list of events sees to, and [`worlds_stay_known`] that the book of a site may
+//! be used between two events.
 #![tactic(auto)]
 
 mod events;
 mod opening;
 mod site;
+#[cfg(test)]
+mod tests;
 
 pub use events::events_may_come;
 pub use opening::{open, ring_is_sound};
-pub use site::Site;
+pub use site::{Site, worlds_stay_known};

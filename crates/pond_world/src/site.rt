@@ -1,5 +1,5 @@
 // A world with its book of names.
-ghost use Rattle.std.specs.Prelude.{◌≡◌, ◌≢◌, ℕ, List, [], ◌∷◌, ◌++◌, Contains, IfOk, IfErr};
+ghost use Rattle.std.specs.Prelude.{◌≡◌, ◌≢◌, ℕ, false, List, [], ◌∷◌, ◌++◌, Contains, IfOk, IfErr};
 ghost use Rattle.std.specs.FinMap as map;
 ghost use Rattle.block_names.specs.Faults.{step_fault};
 ghost use Rattle.block_names.specs.Growth.{keep_all, Grew};
@@ -15,7 +15,7 @@ ghost use Rattle.ring_world.specs.Skipping.{is_skipped};
 ghost use Rattle.ring_world.specs.Steps.{IsStep, said_of};
 ghost use Rattle.ring_world.specs.Worlds.{WorldStands, IsKnown, ForEvents, ForStep, event_of, strings_of};
 ghost use Rattle.pond_world.specs.Setups.{IsSetup, ring_by};
-ghost use Rattle.pond_world.specs.Sites.{IsClashAfter};
+ghost use Rattle.pond_world.specs.Sites.{IsClashAfter, WorldsStayKnown};
 
 use crate::opening::open;
 use block_names::{Book, Hash160, NameFault, StepFault};
@@ -55,6 +55,7 @@ impl<H: Hash160 + Drop> Site<H> {
         requires { IsSetup setup.now }
         ensures stands { IfOk result (λ site. (manifest : Manifest) → WorldStands NodeStands (ring_by H.naming setup.now manifest) (namings_by H.naming setup.now.block) site.world []) }
         ensures held { IfOk result (λ site. site.held ≡ keep_all H.naming (version_strings H.naming setup.now.block [] []) map.empty) }
+        ensures grew { IfOk result (λ site. Grew H.naming map.empty (Contains (version_strings H.naming setup.now.block [] [])) site.held) }
         ensures fault { IfErr result (IsClashAfter H.naming map.empty (Contains (version_strings H.naming setup.now.block [] []))) }
     {
         let mut book = Book::new(alloc, hash);
@@ -116,6 +117,29 @@ impl<H: Hash160 + Drop> Site<H> {
         }
     }
 
+    /// The book and the world, to name further strings in the book: it holds all that the world named,
+    /// and the world has not ended. Takes no memory.
+    pub fn into_parts(self) -> (Book<H>, World<Node>)
+        ensures book { result.0.held ≡ self.held }
+        ensures world { result.1 ≡ self.world }
+        ensures known { IsKnown node.IsKnown H.naming result.0.held result.1 }
+        ensures going { result.1.ended ≡ false }
+    {
+        let Site { book, world } = self;
+        (book, world)
+    }
+
+    /// The site of a world that has not ended, and of a book that holds all that it named. Takes no
+    /// memory.
+    pub fn of(book: Book<H>, world: World<Node>) -> Site<H>
+        requires known { IsKnown node.IsKnown H.naming book.held world }
+        requires going { world.ended ≡ false }
+        ensures held { result.held ≡ book.held }
+        ensures world { result.world ≡ world }
+    {
+        Site { book, world }
+    }
+
     /// The world. Its book holds all that it named, and it has not ended. Takes no memory.
     pub fn world(&self) -> &World<Node>
         ensures world { result.now ≡ self.now.world }
@@ -131,6 +155,11 @@ impl<H: Hash160 + Drop> Site<H> {
         &self.book
     }
 }
+
+/// A book that grows still holds all that a world named.
+pub fn worlds_stay_known()
+    ensures { WorldsStayKnown }
+{}
 
 // Why a string is not named, where a world has not ended before.
 fn cause_of(fault: StepFault) -> NameFault

@@ -1,5 +1,6 @@
 -- What a step asks of a world's values follows from the events so far.
-use Rattle.std.proofs.Common.{◌≡◌, ℕ, ◌<◌, ◌==◌, List, length, count_by, get_or, arith}
+use Rattle.std.proofs.Common.{◌≡◌, ℕ, ◌<◌, ◌==◌, List, Vec, length, count_by, get_or, min, arith}
+use Rattle.std.specs.declared.alloc.Global.{Global}
 use Rattle.std.proofs.lemmas.List.Sums.{length-filter}
 use Rattle.ring_model.specs.Messages.{Ring, Member as member}
 use Rattle.ring_model.specs.World as model
@@ -15,6 +16,8 @@ use Rattle.ring_world.specs.Standing.{Standing}
 use Rattle.ring_world.specs.Conditions.{MayStep}
 use Rattle.ring_world.specs.Steps.{IsStep, IsClient}
 use Rattle.ring_world.specs.Worlds.{WorldStands}
+use Rattle.ring_world.specs.declared.asked.Asked.{Asked}
+use Rattle.ring_world.proofs.Order.{few_submits}
 use Rattle.ring_world.proofs.Requests.{numbered_next}
 use Rattle.ring_world.proofs.Stepping.{party_seat}
 
@@ -43,3 +46,13 @@ step_fits stands g namings w events (Resubmit c n) s may =
     )
 step_fits stands g namings w events (Deliver p q k) s may = may
 step_fits stands g namings w events (Forge i q bytes) s may = (party_seat g (member i.0) s.is.small may.0, party_seat g (who q) s.is.small may.1)
+
+-- the requests that are kept of a client are all that it submitted
+pub all_counted : {N : Type 0} (stands : Standing N) (g : Ring) (namings : Namings) (w : World N) (events : List model.Event) (c : ℕ) (d : Vec Asked Global) → WorldStands stands g namings w events → c < g.clients
+    → min (length (get_or w.requests.items c d).items) 65536 ≡ count_by (λ r. g.owner r == c) (world g events).submits
+all_counted stands g namings w events c d s low =
+    let size : length (get_or w.requests.items c d).items ≡ count_by (λ r. g.owner r == c) (world g events).submits = numbered_next stands g namings w (world g events) (deliveries g events) c d (omega (arith, low, s.is.askers)) s.is in
+    let all = length-filter (λ r. g.owner r == c) (world g events).submits in
+    let short = filter-short (λ r. g.owner r == c) (world g events).submits in
+    let few = few_submits g events s.legal in
+    omega (arith, size, all, short, few, s.is.small.slots)

@@ -1,5 +1,5 @@
 -- Deliveries one after another.
-use Rattle.std.proofs.Common.{◌≡◌, ℕ, zero, suc, ◌+◌, ◌≤◌, Bool, true, false, cond, not, ◌&&◌, ◌||◌, List, [], ◌∷◌, ◌++◌, length, take, find, slice_get, Option, Some, None, refl, sym, ap, ◌∙◌, subst, subst₂, arith, append-nil, append_assoc}
+use Rattle.std.proofs.Common.{◌≡◌, ℕ, zero, suc, ◌+◌, ◌<◌, ◌≤◌, ◌^◌, Bool, true, false, cond, not, ◌&&◌, ◌||◌, List, [], ◌∷◌, ◌++◌, length, take, find, slice_get, Option, Some, None, refl, sym, ap, ◌∙◌, subst, subst₂, arith, append-nil, append_assoc}
 use Rattle.std.specs.List.{AllByRecursion as Each}
 use Rattle.std.proofs.lemmas.Bool.{and_from, or_right, eq-eqb}
 use Rattle.std.proofs.lemmas.List.Elements.{filter-append}
@@ -257,13 +257,13 @@ turned_same h g namings skipped events count first now m = subst (λ n. HoldsMor
 -- a delivery that fails names strings of the settle alone
 pub turned_failed : {N : Type 0} (stands : Standing N) (h : List ℕ → List ℕ) (g : Ring) (namings : Namings) (skipped : Place → Bool) (events : List Event) (w : World N) (number count : ℕ) (a : Place) (first now new : Held) (fault : NameFault)
     → slice_get (places (world g (settled g skipped events count ++ events)).sent) number ≡ Some a → is_due skipped (deliveries g (settled g skipped events count ++ events)) a ≡ true
-    → Swept stands g namings skipped events w number count
+    → suc count < 2 ^ 32 → Swept stands g namings skipped events w number count
     → Grew h now (Contains (named_by g namings (world g (settled g skipped events count ++ events)) (Deliver a.from a.to a.place))) new
     → IsClashIn h new (Contains (named_by g namings (world g (settled g skipped events count ++ events)) (Deliver a.from a.to a.place))) fault
     → HoldsMore h g namings events (settled g skipped events count) first now
     → Grew h first (IsNamedIn g namings skipped events) new × IsClashIn h new (IsNamedIn g namings skipped events) fault
-turned_failed stands h g namings skipped events w number count a first now new fault e y swept grew clash m = (
-  grew_then h first now new (Contains xs) (Contains ys) (IsNamedIn g namings skipped events) (λ s there. (count, there)) later m.grew grew,
+turned_failed stands h g namings skipped events w number count a first now new fault e y low swept grew clash m = (
+  grew_then h first now new (Contains xs) (Contains ys) (IsNamedIn g namings skipped events) (λ s there. (count, omega (arith, low), there)) later m.grew grew,
   clash_wider h new (Contains ys) (IsNamedIn g namings skipped events) fault later clash,
 )
   where
@@ -274,11 +274,18 @@ turned_failed stands h g namings skipped events w number count a first now new f
     ys = named_by g namings (world g (settled g skipped events count ++ events)) (Deliver a.from a.to a.place)
 
     later : (s : List ℕ) → Contains ys s → IsNamedIn g namings skipped events s
-    later s there = (suc count, subst (λ late. Contains (named_along g namings events late) s) (next_settled stands g namings skipped events w number count a e y swept) (Contains-append_right xs ys s there))
+    later s there = (suc count, low, subst (λ late. Contains (named_along g namings events late) s) (next_settled stands g namings skipped events w number count a e y swept) (Contains-append_right xs ys s there))
+
+-- a place that a list has leaves room for one delivery more
+pub room_for : (m : Mail) (sent : List Sent) (done : List Place) (number count : ℕ) (a : Place) → IsMail m sent done → slice_get (places sent) number ≡ Some a → count ≤ number → suc count < 2 ^ 32
+room_for m sent done number count a h e low =
+    let few : length (places sent) ≤ 4294967295 = few_places m sent done h in
+    let within : suc number ≤ length (places sent) = slice_get_within (places sent) number a e in
+    omega (arith, few, within, low)
 
 -- what a settle holds more is named in it
-pub more_grew : (h : List ℕ → List ℕ) (g : Ring) (namings : Namings) (skipped : Place → Bool) (events : List Event) (n : ℕ) (first now : Held)
+pub more_grew : (h : List ℕ → List ℕ) (g : Ring) (namings : Namings) (skipped : Place → Bool) (events : List Event) (n : ℕ) (first now : Held) → n < 2 ^ 32
     → HoldsMore h g namings events (settled g skipped events n) first now → Grew h first (IsNamedIn g namings skipped events) now
-more_grew h g namings skipped events n first now m =
-    grew_then h first now now (Contains (named_along g namings events (settled g skipped events n))) (IsNamedIn g namings skipped events) (IsNamedIn g namings skipped events) (λ s there. (n, there)) (λ s there. there)
+more_grew h g namings skipped events n first now low m =
+    grew_then h first now now (Contains (named_along g namings events (settled g skipped events n))) (IsNamedIn g namings skipped events) (IsNamedIn g namings skipped events) (λ s there. (n, low, there)) (λ s there. there)
     m.grew (grew_none h now (IsNamedIn g namings skipped events))

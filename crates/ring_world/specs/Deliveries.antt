@@ -1,5 +1,5 @@
 -- What was delivered, what is pending, and the deliveries of a settle.
-use Rattle.std.specs.Prelude.{ℕ, zero, suc, Bool, not, ◌&&◌, List, [], ◌∷◌, ◌++◌, find, slice_get, Option, Some, None, Contains}
+use Rattle.std.specs.Prelude.{ℕ, zero, suc, ◌<◌, ◌^◌, Bool, not, ◌&&◌, List, [], ◌∷◌, ◌++◌, find, slice_get, Option, Some, None, Contains}
 use Rattle.ring_model.specs.Messages.{Ring, Packet}
 use Rattle.ring_model.specs.World.{World, Event, Deliver, world, between}
 use Rattle.ring_node.specs.Naming.{Namings}
@@ -46,6 +46,6 @@ abbrev pub named_along : Ring → Namings → List Event → List Event → List
 named_along g namings events [] = []
 named_along g namings events (e ∷ late) = named_along g namings events late ++ named_by g namings (world g (late ++ events)) e
 
--- a string that the deliveries of a settle name, however many are done
+-- a string that the deliveries of a settle name, however many are done; their count fits in 32 bits
 abbrev pub IsNamedIn : Ring → Namings → (Place → Bool) → List Event → List ℕ → Type 0
-IsNamedIn g namings skipped events string = (n : ℕ) × Contains (named_along g namings events (settled g skipped events n)) string
+IsNamedIn g namings skipped events string = (n : ℕ) × (n < 2 ^ 32) × Contains (named_along g namings events (settled g skipped events n)) string

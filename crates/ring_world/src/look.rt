@@ -71,6 +71,17 @@ impl<N: Node> World<N> {
         }
     }
 
+    /// How many requests a client has submitted. Takes no memory.
+    pub fn submitted(&self, client: ClientId) -> u32
+        ensures { (g : Ring) (namings : Namings) (events : List model.Event) → WorldStands N.stands g namings self.now events → client.0 < g.clients
+            → result ≡ count_by (λ r. g.owner r == client.0) (world g events).submits }
+    {
+        match self.requests.get(client.0 as usize) {
+            Some(asked) => asked.len().min(65_536) as u32,
+            None => 0,
+        }
+    }
+
     /// The member's node, and `None` exactly where it is faulty. What the member executed is a prefix of
     /// the committed list and was submitted, and what it holds for committed is prepared at f+1 correct
     /// members. Takes no memory.

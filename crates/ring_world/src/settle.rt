@@ -1,5 +1,5 @@
 // Delivering all that is pending.
-ghost use Rattle.std.specs.Prelude.{◌≡◌, ℕ, List, [], ◌++◌, slice_get, Some, ◌+◌, ◌≤◌, OnOk, IfOk, IfErr, Contains, true, false};
+ghost use Rattle.std.specs.Prelude.{◌≡◌, ℕ, List, [], ◌++◌, slice_get, Some, ◌+◌, ◌<◌, ◌≤◌, ◌^◌, OnOk, IfOk, IfErr, Contains, true, false};
 ghost use Rattle.block_names.specs.Held.{Held};
 ghost use Rattle.block_names.specs.Growth.{keep_all, Grew, IsClashIn};
 ghost use Rattle.cow_tree.specs.Laws.{Keeps};
@@ -57,7 +57,7 @@ impl<N: Node> World<N> {
             → HoldsMore H.naming g namings events (settled g (is_skipped skips.now) events (count + n)) first book.new.held) }
         ensures fault { IfErr result (λ fault. (g : Ring) (namings : Namings) (events : List model.Event) (number count : ℕ) (first : Held) → IsRingOf H.naming g
             → slice_get (places (world g (settled g (is_skipped skips.now) events count ++ events)).sent) number ≡ Some (place_of note)
-            → Swept N.stands g namings (is_skipped skips.now) events self.old number count
+            → count ≤ number → Swept N.stands g namings (is_skipped skips.now) events self.old number count
             → HoldsMore H.naming g namings events (settled g (is_skipped skips.now) events count) first book.old.held
             → Grew H.naming first (IsNamedIn g namings (is_skipped skips.now) events) book.new.held × IsClashIn H.naming book.new.held (IsNamedIn g namings (is_skipped skips.now) events) fault) }
     {
@@ -78,6 +78,7 @@ impl<N: Node> World<N> {
         ensures going { self.new.ended ≡ self.old.ended }
         ensures known { OnOk result (IsKnown N.knows H.naming book.new.held self.new) }
         ensures keeps { Keeps book.old.held book.new.held }
+        ensures fits { IfOk result (λ n. n < 2 ^ 32) }
         ensures ok { IfOk result (λ n. ForEvents N.stands H.naming self.old (λ g namings events. Settles N.stands g namings (is_skipped skips.now) events self.new n)) }
         ensures more { IfOk result (λ n. ForEvents N.stands H.naming self.old (λ g namings events.
             HoldsMore H.naming g namings events (settled g (is_skipped skips.now) events n) book.old.held book.new.held)) }
@@ -101,7 +102,7 @@ impl<N: Node> World<N> {
         book: &mut Book<H>,
         skips: &Skips,
     ) -> Result<u32, StepFault>
-        requires { IsKnown N.knows H.naming book.old.held self.old }
+        requires { self.old.ended ≡ false → IsKnown N.knows H.naming book.old.held self.old }
         ensures settles { IfOk result (λ n. ForEvents N.stands H.naming self.old (λ g namings events. Settles N.stands g namings (is_skipped skips.now) events self.new n)) }
         ensures delivered { IfOk result (λ n. skips.now.muted.items ≡ [] → skips.now.lost.items ≡ [] → ForEvents N.stands H.naming self.old (λ g namings events.
             AllDelivered g (world g (settled g (is_skipped skips.now) events n ++ events)))) }

@@ -1,5 +1,5 @@
 // The events of a world, and its end.
-ghost use Rattle.std.specs.Prelude.{◌≡◌, ℕ, List, ◌∷◌, [], length, Contains, OnOk, IfOk, IfErr, true, Result};
+ghost use Rattle.std.specs.Prelude.{◌≡◌, ℕ, List, ◌∷◌, [], length, Contains, OnOk, IfOk, IfErr, true, false, Result};
 ghost use Rattle.block_names.specs.Growth.{keep_all, Grew};
 ghost use Rattle.block_names.specs.Faults.{step_fault};
 ghost use Rattle.cow_tree.specs.Laws.{Keeps};
@@ -72,7 +72,7 @@ impl<N: Node> World<N> {
         event: Event,
     ) -> Result<Said, StepFault>
         requires step { IsStep self.old event }
-        requires known { IsKnown N.knows H.naming book.old.held self.old }
+        requires known { self.old.ended ≡ false → IsKnown N.knows H.naming book.old.held self.old }
         ensures stands { OnOk result (ForStep N.stands H.naming self.old event (λ g namings events. WorldStands N.stands g namings self.new (event_of g (world g events) event ∷ events))) }
         ensures said { IfOk result (λ said. ForStep N.stands H.naming self.old event (λ g namings events. said ≡ said_of g (world g events) (event_of g (world g events) event))) }
         ensures grows { OnOk result (ForStep N.stands H.naming self.old event (λ g namings events. FewFaulty g → NoClash g (world g (event_of g (world g events) event ∷ events)).submits

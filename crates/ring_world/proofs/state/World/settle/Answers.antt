@@ -22,7 +22,7 @@ returns-in-Ok-clause-held g c = λ r namings events ring h. (c.in-Ok.ensures.mor
 
 pub returns-in-Ok-clause-grew : goal.returns-in-Ok-clause-grew
 returns-in-Ok-clause-grew g c = λ r namings events ring h.
-    more_grew g.H.Hash160.naming r namings (is_skipped c.args.skips.now) events c.in-Ok.count c.args.book.now.held c.sweep.new.book.held (c.in-Ok.ensures.more r namings events ring h)
+    more_grew g.H.Hash160.naming r namings (is_skipped c.args.skips.now) events c.in-Ok.count c.args.book.now.held c.sweep.new.book.held c.in-Ok.ensures.fits (c.in-Ok.ensures.more r namings events ring h)
 
 pub returns-in-Err-clause-grew : goal.returns-in-Err-clause-grew
 returns-in-Err-clause-grew g c = λ r namings events ring h. (c.in-Err.ensures.fault r namings events ring h).0

@@ -45,7 +45,7 @@ returns-in_err-count-clause-fault g c =
     rw (p.1, p.2)
     (λ r namings events ring h.
     let swept = c.loop-number.invariant.4 r namings events ring h in
-    c.in_err-count.ensures.fault r namings events c.loop-number.number c.loop-number.count c.args.book.now.held ring (sym (c.in-Some.ensures.value _ _ swept.is.is.mail_is)) swept (c.loop-number.invariant.5 r namings events ring h))
+    c.in_err-count.ensures.fault r namings events c.loop-number.number c.loop-number.count c.args.book.now.held ring (sym (c.in-Some.ensures.value _ _ swept.is.is.mail_is)) c.loop-number.invariant.1 swept (c.loop-number.invariant.5 r namings events ring h))
 
 pub returns-clause-ok : goal.returns-clause-ok
 returns-clause-ok g c = λ r namings events ring h.

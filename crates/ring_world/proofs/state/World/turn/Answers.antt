@@ -5,7 +5,7 @@ use Rattle.message_model.specs.Meaning.{who}
 use Rattle.ring_mail.specs.Places.{place_of}
 use Rattle.ring_world.specs.Skipping.{is_skipped}
 use Rattle.ring_world.specs.Deliveries.{settled, deliveries}
-use Rattle.ring_world.proofs.Settling.{turned_past, turned_one, place_declared, turned_same, turned_more, turned_failed}
+use Rattle.ring_world.proofs.Settling.{turned_past, turned_one, place_declared, turned_same, turned_more, turned_failed, room_for}
 use Rattle.ring_world.proofs.Stepping.{party_seat}
 use Rattle.ring_world.proofs.state.World.turn.Goals as goal
 
@@ -38,9 +38,10 @@ pub returns-in_err-deliver-clause-fault : goal.returns-in_err-deliver-clause-fau
 returns-in_err-deliver-clause-fault g c =
     let p = err_from_is_err_and c.from_residual.result c.from_residual.ensures.1 in
     rw (p.1, p.2)
-    (λ r namings events number count first ring e h more.
+    (λ r namings events number count first ring e low h more.
     let late = settled r (is_skipped c.args.skips.now) events count ++ events in
     let d = place_declared r (settled r (is_skipped c.args.skips.now) events count ++ events) number (place_of c.args.note) h.is.legal e in
     let failed = c.in_err-deliver.ensures.names r namings (world r late) (deliveries r late) ring h.is.is d.0 d.1 in
     turned_failed g.N.Node.stands g.H.Hash160.naming r namings (is_skipped c.args.skips.now) events c.args.self.now number count (place_of c.args.note) first c.args.book.now.held c.deliver.new.book.held c.in_err-deliver.field-0.0 e
-    (sym (c.is_due.ensures _ _ h.is.is.mail_is (party_seat r (who c.args.note.from) h.is.is.small d.0) (party_seat r (who c.args.note.to) h.is.is.small d.1)) ∙ c.if-not-is_due.false) h failed.0 failed.1 more)
+    (sym (c.is_due.ensures _ _ h.is.is.mail_is (party_seat r (who c.args.note.from) h.is.is.small d.0) (party_seat r (who c.args.note.to) h.is.is.small d.1)) ∙ c.if-not-is_due.false)
+    (room_for c.args.self.now.mail (world r late).sent (deliveries r late) number count (place_of c.args.note) h.is.is.mail_is e low) h failed.0 failed.1 more)
