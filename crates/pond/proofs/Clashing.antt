@@ -11,7 +11,7 @@ use Rattle.text_model.specs.Requests.{Numbered}
 named_within : (h : List ℕ → List ℕ) (script : Script) (later before : List Numbered) (s : List ℕ) → Contains (named h script before) s → Contains (named h script (later ++ before)) s
 named_within h script [] before s c = c
 named_within h script (line ∷ later) before s c =
-    Contains-append_left (named h script (later ++ before)) (line_strings h script.setup.block (later ++ before) line.1) s (named_within h script later before s c)
+    Contains-append_left (named h script (later ++ before)) (line_strings h script (later ++ before) line) s (named_within h script later before s c)
 
 -- strings do not clash among more that do not
 no_clash_within : (h : List ℕ → List ℕ) (script : Script) (later before : List Numbered) (old new : List ℕ) → IsClash h (named h script before) old new → NoClash h (named h script (later ++ before)) → ⊥

@@ -13,6 +13,6 @@ mod sizes;
 #[cfg(test)]
 mod tests;
 
-pub use known::Known;
+pub use known::{Known, slot};
 pub use load::Load;
 pub use sizes::{changing, in_size};

@@ -2,7 +2,7 @@
 use super::*;
 use bytes::Bytes;
 use guarded_update::{Action, Place};
-use pond_base::{ClientId, Items, MemberId};
+use pond_base::{ClientId, Items, MemberId, Seq};
 use script_terms::{Declaration, Item, Line, LineClause, LineFault, refused};
 use std::alloc::Global;
 use std::test::Fail;
@@ -24,10 +24,10 @@ fn update(alloc: Global) -> Result<Items<LineClause>, LineFault> {
 #[test]
 fn declarations_and_counts(rt: HostRuntime) -> Result<(), Fail> {
     let alloc = rt.alloc();
-    let mut known = Known::new();
+    let mut known = Known::new(alloc);
     assert!(rt; known.is_in_order(1));
     assert!(rt; !known.is_in_order(2));
-    known.add(&Item::Declared(Declaration::Clients { count: 2 }));
+    known.add(&Item::Declared(Declaration::Clients { count: 2 }))?;
     assert!(rt; known.has_heads());
     assert!(rt; known.has_room());
     assert_eq!(rt; known.block(), 8_192);
@@ -35,13 +35,27 @@ fn declarations_and_counts(rt: HostRuntime) -> Result<(), Fail> {
     assert_eq!(rt; known.client(2), Err(refused::RANGE));
     assert_eq!(rt; known.member(0), Ok(MemberId(0)));
     assert_eq!(rt; known.member(1), Err(refused::RANGE));
-    let setup = known.setup(alloc);
-    assert_eq!(rt; setup.clients, 2);
+    assert_eq!(rt; known.request(ClientId(0), 1), Err(refused::RANGE));
+    assert_eq!(rt; slot(65_536), Ok(Seq(65_536)));
+    assert_eq!(rt; slot(0), Err(refused::RANGE));
+    Ok(())
+}
+
+#[test]
+fn faulty_members_and_homes(rt: HostRuntime) -> Result<(), Fail> {
+    let alloc = rt.alloc();
+    let mut known = Known::new(alloc);
+    let member = MemberId(0);
+    let client = ClientId(0);
+    known.add(&Item::Declared(Declaration::Faulty { member }))?;
+    assert!(rt; known.is_faulty(member));
+    assert_eq!(rt; known.faulty(0), Ok(member));
+    assert_eq!(rt; known.faulty(1), Err(refused::RANGE));
+    assert!(rt; !known.has_room());
+    assert!(rt; !known.has_home(client));
     let homes = known.homes(alloc)?;
-    assert_eq!(rt;
-        homes.as_slice(),
-        [Place::Member(MemberId(0)); 2].as_slice()
-    );
+    assert_eq!(rt; homes.as_slice(), [Place::Member(member)].as_slice());
+    assert_eq!(rt; known.into_setup().faulty.len(), 1);
     Ok(())
 }
 

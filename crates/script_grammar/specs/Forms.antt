@@ -7,7 +7,7 @@ use Rattle.script_terms.specs.declared.cause.Cause.TheVariants as causes
 use Rattle.script_terms.specs.declared.declaration.Declaration.TheVariants as declared
 use Rattle.script_terms.specs.declared.item.Item.{Item}
 use Rattle.script_terms.specs.declared.item.Item.TheVariants.{Declared, Event}
-use Rattle.script_terms.specs.declared.line.Line.TheVariants.{Submit, Settle, Read, ShowMember, ShowVersion}
+use Rattle.script_terms.specs.declared.line.Line.TheVariants.{Submit, Resubmit, Deliver, Lose, Settle, Mute, Unmute, ForgeOrder, ForgePrepare, ForgeCommit, ForgeRaw, Read, ShowMember, ShowVersion, ShowRecent}
 use Rattle.script_terms.specs.declared.verb.Verb.{Verb}
 use Rattle.script_terms.specs.declared.verb.Verb.TheVariants as verbs
 use Rattle.script_grammar.specs.Results.{◌>>=◌, or_cause}
@@ -19,13 +19,21 @@ abbrev pub verb_of : List ℕ → Option Verb
 verb_of word =
     if bytes_eq word (codes "pond") then Some verbs.Pond
     else (if bytes_eq word (codes "ring") then Some verbs.Ring
+    else (if bytes_eq word (codes "faulty") then Some verbs.Faulty
     else (if bytes_eq word (codes "block") then Some verbs.Block
     else (if bytes_eq word (codes "clients") then Some verbs.Clients
+    else (if bytes_eq word (codes "home") then Some verbs.Home
     else (if bytes_eq word (codes "submit") then Some verbs.Submit
+    else (if bytes_eq word (codes "resubmit") then Some verbs.Resubmit
+    else (if bytes_eq word (codes "deliver") then Some verbs.Deliver
+    else (if bytes_eq word (codes "lose") then Some verbs.Lose
     else (if bytes_eq word (codes "settle") then Some verbs.Settle
+    else (if bytes_eq word (codes "mute") then Some verbs.Mute
+    else (if bytes_eq word (codes "unmute") then Some verbs.Unmute
+    else (if bytes_eq word (codes "forge") then Some verbs.Forge
     else (if bytes_eq word (codes "read") then Some verbs.Read
     else (if bytes_eq word (codes "show") then Some verbs.Show
-    else None)))))))
+    else None)))))))))))))))
 
 -- what stands at a place of a form: a fixed word, or any word of a class
 pub data Slot : Type 0 where
@@ -51,18 +59,36 @@ pub record Form : Type 0 where
   pub slots : List Slot
   pub make : Makes slots
 
+-- the words of a forgery of a kind for a slot: a member, a party, the kind, a sequence number, and a client's request by its number
+abbrev pub slot_words : List ℕ → List Slot
+slot_words kind = Number ∷ PartyWord ∷ Fixed kind ∷ Number ∷ Number ∷ Number ∷ []
+
 -- the forms of each verb, by the words behind it; `submit` has a grammar of its own
 abbrev pub forms : Verb → List Form
 forms verbs.Pond = record { slots = Fixed (codes "1") ∷ []; make = Declared declared.Pond } ∷ []
 forms verbs.Ring = record { slots = Number ∷ []; make = λ f. Declared (declared.Ring f) } ∷ []
+forms verbs.Faulty = record { slots = Number ∷ []; make = λ member. Declared (declared.Faulty (record { 0 = member })) } ∷ []
 forms verbs.Block = record { slots = Number ∷ []; make = λ size. Declared (declared.Block size) } ∷ []
 forms verbs.Clients = record { slots = Number ∷ []; make = λ count. Declared (declared.Clients count) } ∷ []
+forms verbs.Home = record { slots = Number ∷ Fixed (codes "member") ∷ Number ∷ []; make = λ client member. Declared (declared.Home (record { 0 = client }) (record { 0 = member })) } ∷ []
 forms verbs.Submit = []
+forms verbs.Resubmit = record { slots = Number ∷ Number ∷ []; make = λ client number. Event (Resubmit (record { 0 = client }) number) } ∷ []
+forms verbs.Deliver = record { slots = PartyWord ∷ PartyWord ∷ Number ∷ []; make = λ sender to place. Event (Deliver sender to place) } ∷ []
+forms verbs.Lose = record { slots = PartyWord ∷ PartyWord ∷ Number ∷ []; make = λ sender to place. Event (Lose sender to place) } ∷ []
 forms verbs.Settle = record { slots = []; make = Event Settle } ∷ []
+forms verbs.Mute = record { slots = PartyWord ∷ []; make = λ party. Event (Mute party) } ∷ []
+forms verbs.Unmute = record { slots = PartyWord ∷ []; make = λ party. Event (Unmute party) } ∷ []
+forms verbs.Forge =
+    record { slots = slot_words (codes "order"); make = λ member to seq client number. Event (ForgeOrder (record { 0 = member }) to (record { 0 = seq }) (record { 0 = client }) number) }
+    ∷ record { slots = slot_words (codes "prepare"); make = λ member to seq client number. Event (ForgePrepare (record { 0 = member }) to (record { 0 = seq }) (record { 0 = client }) number) }
+    ∷ record { slots = slot_words (codes "commit"); make = λ member to seq client number. Event (ForgeCommit (record { 0 = member }) to (record { 0 = seq }) (record { 0 = client }) number) }
+    ∷ record { slots = Number ∷ PartyWord ∷ Fixed (codes "raw") ∷ Data ∷ []; make = λ member to content. Event (ForgeRaw (record { 0 = member }) to content) }
+    ∷ []
 forms verbs.Read = record { slots = Number ∷ Label ∷ []; make = λ client label. Event (Read (record { 0 = client }) label) } ∷ []
 forms verbs.Show =
     record { slots = Fixed (codes "member") ∷ Number ∷ []; make = λ member. Event (ShowMember (record { 0 = member })) }
     ∷ record { slots = Fixed (codes "version") ∷ Number ∷ Label ∷ Number ∷ []; make = λ member label version. Event (ShowVersion (record { 0 = member }) label (record { 0 = version })) }
+    ∷ record { slots = Fixed (codes "recent") ∷ []; make = Event ShowRecent }
     ∷ []
 
 -- the fixed words stand at their places

@@ -1,9 +1,11 @@
 -- The script that a text is, or the first line with a fault, and its cause.
-use Rattle.std.specs.Prelude.{ℕ, ◌+◌, List, [], ◌∷◌, ◌++◌, nat_le, map, reverse, replicate, None, Result, Ok, Err}
-use Rattle.std.specs.List.{flat_map}
+use Rattle.std.specs.Prelude.{ℕ, ◌+◌, List, [], ◌∷◌, ◌++◌, nat_le, ◌==◌, map, reverse, if◌then◌else◌, None, Result, Ok, Err}
+use Rattle.std.specs.List.{flat_map, range_with_len}
 use Rattle.guarded_update.specs.declared.setup.Place.{Place}
 use Rattle.guarded_update.specs.declared.setup.Place.TheVariants.{Member}
 use Rattle.guarded_update.specs.declared.setup.Setup.{Setup}
+use Rattle.pond_base.specs.declared.numbers.ClientId.{ClientId}
+use Rattle.pond_base.specs.declared.numbers.MemberId.{MemberId}
 use Rattle.script_terms.specs.declared.cause.Cause.{Cause}
 use Rattle.script_terms.specs.declared.cause.Cause.TheVariants as causes
 use Rattle.script_terms.specs.declared.item.Item.{Item}
@@ -38,13 +40,18 @@ at_line number (Err cause) f = Err (record { line = number; cause = cause })
 abbrev pub event_in : Placed → List (ℕ × Line)
 event_in placed = elim placed.item [ Declared declaration ↦ [] | Event line ↦ (placed.line, line) ∷ [] ]
 
--- the setup that lines declare: no member is faulty, and the code is 16 of 32
+-- the setup that lines declare; the code is 16 of 32
 abbrev pub setup_by : Known → Setup
-setup_by k = record { f = k.ring; faulty = []; clients = k.clients; block = k.block; m = 16; n = 32; newer = None }
+setup_by k = record { f = k.ring; faulty = k.faulty; clients = k.clients; block = k.block; m = 16; n = 32; newer = None }
 
--- each client reads at member 0
+-- the member where a client reads: that of its home, and member 0 where it has none
+abbrev pub home_of : List (ClientId × MemberId) → ℕ → MemberId
+home_of [] number = record { 0 = 0 }
+home_of (home ∷ homes) number = if home.0.0 == number then home.1 else home_of homes number
+
+-- where each client reads, in the order of clients
 abbrev pub homes_by : Known → List Place
-homes_by k = replicate k.clients (Member (record { 0 = 0 }))
+homes_by k = map (λ client. Member (home_of k.homes client)) (range_with_len 0 k.clients)
 
 -- the script of what lines say, the newest first
 abbrev pub script_by : List Placed → Script

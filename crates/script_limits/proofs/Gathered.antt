@@ -1,9 +1,9 @@
 -- What all of some parts give.
-use Rattle.std.proofs.Common.{◌≡◌, ◌∷◌, [], ◌++◌, ℕ, zero, suc, ◌≤◌, ◌+◌, List, Bool, true, false, cond, ◌&&◌, ◌⊎◌, inl, inr, length, Result, Ok, Err, Option, Some, None, refl, sym, ◌∙◌, ap, arith, length-append}
-use Rattle.std.specs.List.{list_all, AllByRecursion}
+use Rattle.std.proofs.Common.{◌≡◌, ◌∷◌, [], ◌++◌, ◌≤◌, List, Bool, true, false, ◌&&◌, ◌⊎◌, inl, inr, length, Result, Ok, refl, sym, ◌∙◌, ap, arith, length-append}
+use Rattle.std.specs.List.{list_all}
 use Rattle.std.proofs.lemmas.List.Folds.{list_all-append}
 use Rattle.script_terms.specs.declared.cause.Cause.{Cause}
-use Rattle.script_grammar.specs.Results.{◌>>=◌, or_cause}
+use Rattle.script_grammar.specs.Results.{◌>>=◌}
 use Rattle.script_grammar.specs.Update.{gathered}
 use Rattle.script_text.proofs.Steps.{bind_ok}
 
@@ -19,6 +19,20 @@ and_first false b e = absurd (cc)
 pub and_second : (a b : Bool) → (a && b) ≡ true → b ≡ true
 and_second true b e = e
 and_second false b e = absurd (cc)
+
+pub and_three : (a b c : Bool) → (a && b && c) ≡ true → (a ≡ true) × (b ≡ true) × (c ≡ true)
+and_three true true true e = (refl, refl, refl)
+and_three true true false e = absurd (cc)
+and_three true false c e = absurd (cc)
+and_three false b c e = absurd (cc)
+
+pub and_five : (a b c d f : Bool) → (a && b && c && d && f) ≡ true → (a ≡ true) × (b ≡ true) × (c ≡ true) × (d ≡ true) × (f ≡ true)
+and_five true true true true true e = (refl, refl, refl, refl, refl)
+and_five true true true true false e = absurd (cc)
+and_five true true true false f e = absurd (cc)
+and_five true true false d f e = absurd (cc)
+and_five true false c d f e = absurd (cc)
+and_five false b c d f e = absurd (cc)
 
 -- where each part gives only what passes, all give only what passes
 pub all_gathered : {X Y : Type 0} (f : X → Result (List Y) Cause) (p : Y → Bool) → ((x : X) (y : List Y) → f x ≡ Ok y → list_all p y ≡ true)

@@ -1,5 +1,5 @@
 -- Each clause of an update has an action, and each action its content.
-use Rattle.std.proofs.Common.{◌≡◌, ◌∷◌, [], ◌++◌, ℕ, zero, suc, ◌≤◌, ◌+◌, List, Bool, true, false, cond, ◌&&◌, ◌||◌, ◌⊎◌, inl, inr, nat_le, take, drop, length, Result, Ok, Err, Option, Some, None, refl, sym, subst, ◌∙◌, ap, arith, length-append, codes}
+use Rattle.std.proofs.Common.{◌≡◌, ◌∷◌, [], ◌++◌, ℕ, zero, suc, ◌≤◌, List, Bool, true, false, cond, ◌||◌, ◌⊎◌, inl, inr, nat_le, take, drop, length, Result, Ok, Option, Some, None, refl, sym, subst, ◌∙◌, ap, arith, length-append, codes}
 use Rattle.std.specs.List.{slice_split, onto_first, list_all, AllByRecursion}
 use Rattle.std.specs.Option.{option_map, option_and_then}
 use Rattle.std.specs.Str.{bytes_eq}
@@ -15,8 +15,7 @@ use Rattle.script_terms.specs.declared.line.LineGuard.{LineGuard}
 use Rattle.script_terms.specs.declared.line.LineGuard.TheVariants.{VersionIs, SizeIs, BlockIs}
 use Rattle.script_grammar.specs.Results.{◌>>=◌}
 use Rattle.script_grammar.specs.Classes.{number_at, data_at}
-use Rattle.script_grammar.specs.Words.{number_of, data_of}
-use Rattle.script_grammar.specs.Update as update
+use Rattle.script_grammar.specs.Words.{data_of}
 use Rattle.script_grammar.specs.Update.{Place, AtClause, AtGuard, AfterGuard, AtAction, AfterAction, action_role, guard_role, role, is_end, groups, groups_of, is_or, guard_of, action_of, gathered, clause_of, clauses_of}
 use Rattle.script_text.proofs.Steps.{bind_ok, or_ok}
 use Rattle.script_limits.proofs.Gathered.{and_true, Gives, SomeGives, all_gathered, some_gathered}

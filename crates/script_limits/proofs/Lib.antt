@@ -1,4 +1,9 @@
 pub mod Gathered
 pub mod Contents
 pub mod Groups
+pub mod Updates
+pub mod Spoken
+pub mod Setups
+pub mod Lines
 pub mod Within
+pub mod Turns

@@ -1,5 +1,5 @@
 -- What follows where exactly some strings are held.
-use Rattle.std.proofs.Common.{◌≡◌, ◌≢◌, ◌⊎◌, inl, inr, ℕ, ◌+◌, ◌<◌, Bool, true, false, ◌&&◌, ◌||◌, not, List, [], ◌∷◌, ◌++◌, length, take, drop, get_or, Contains, Some, refl, ap, sym, ◌∙◌, subst, arith, append-nil, take-append-drop}
+use Rattle.std.proofs.Common.{◌≡◌, inl, inr, ℕ, ◌+◌, ◌<◌, Bool, true, false, ◌&&◌, ◌||◌, not, List, [], ◌∷◌, ◌++◌, length, take, drop, get_or, Contains, Some, refl, ap, sym, ◌∙◌, subst, arith, append-nil, take-append-drop}
 use Rattle.std.specs.FinMap as map
 use Rattle.std.specs.List.{list_any, flat_map}
 use Rattle.std.proofs.lemmas.Grind.{common_steps, flat_map-append}

@@ -31,8 +31,8 @@ pub from_line : (h : List ℕ → List ℕ) (script : Script) (before : List Num
     → text_from h script before (line ∷ lines) ≡ written_at h script before line ++ cond (has_clash h (named h script (line ∷ before))) [] (text_from h script (line ∷ before) lines)
 from_line h script before line lines = by (has_clash h (named h script (line ∷ before)))
   where
-    by : (b : Bool) → cond b (clash_line line.0) (line_text h script.setup.block before line.1 ++ text_from h script (line ∷ before) lines)
-        ≡ cond b (clash_line line.0) (line_text h script.setup.block before line.1) ++ cond b [] (text_from h script (line ∷ before) lines)
+    by : (b : Bool) → cond b (clash_line line.0) (line_text h script before line.1 ++ text_from h script (line ∷ before) lines)
+        ≡ cond b (clash_line line.0) (line_text h script before line.1) ++ cond b [] (text_from h script (line ∷ before) lines)
     by true = sym (append-nil (clash_line line.0))
     by false = refl
 
@@ -66,10 +66,10 @@ left_at h script i line a b w here is =
 
 -- a line more
 pub written_more : (h : List ℕ → List ℕ) (script : Script) (i : ℕ) (line : Numbered) (a b c : Option (List ℕ)) → Written h script i a b → i < length script.lines → line ≡ get_or script.lines i line
-    → has_clash h (named h script (line ∷ reverse (take i script.lines))) ≡ false → Appends b c (line_text h script.setup.block (reverse (take i script.lines)) line.1) → Written h script (i + 1) a c
+    → has_clash h (named h script (line ∷ reverse (take i script.lines))) ≡ false → Appends b c (line_text h script (reverse (take i script.lines)) line.1) → Written h script (i + 1) a c
 written_more h script i line a b c w here is clear took =
     let before = reverse (take i script.lines) in
-    let piece = line_text h script.setup.block before line.1 in
+    let piece = line_text h script before line.1 in
     record {
       text = w.text ++ piece;
       taken = Appends-trans a b c _ _ w.taken took;

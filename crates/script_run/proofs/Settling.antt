@@ -1,90 +1,116 @@
--- A settle, request by request.
-use Rattle.std.proofs.Common.{◌≡◌, ◌≤◌, ◌<◌, ◌+◌, ℕ, List, [], ◌∷◌, ◌++◌, length, take, drop, reverse, slice_get, get_or, Some, Contains, sym, ◌∙◌, ap, subst, arith, append_assoc, take-append-drop, inl, inr}
-use Rattle.std.proofs.lemmas.List.{reverse-append, reverse-reverse}
-use Rattle.std.proofs.lemmas.List.Elements.{Contains-append_left, Contains-append_right, Contains-append_cases}
-use Rattle.std.proofs.lemmas.Option.{slice_get-get_or}
-use Rattle.std.proofs.lemmas.Grind.{common_steps}
+-- Deliveries, one or all that are pending.
+use Rattle.std.proofs.Common.{◌≡◌, ◌≤◌, ℕ, ◌+◌, List, ◌∷◌, Contains, reverse, take, drop, refl, sym, ◌∙◌, subst, arith, take-append-drop}
+use Rattle.std.specs.List.{AllByRecursion}
+use Rattle.std.proofs.lemmas.List.Elements.{Contains-append_left}
+use Rattle.block_names.specs.Growth.{Grew}
 use Rattle.block_names.specs.declared.fault.NameFault.{NameFault}
-use Rattle.guarded_update.specs.declared.request.Request.{Request}
-use Rattle.script_requests.specs.Holding.{IsClashOf}
-use Rattle.script_requests.proofs.Holds.{holds_same, clash_more}
-use Rattle.text_model.specs.Named.{executed_strings, made_strings}
-use Rattle.script_run.specs.States.{StateView, IsState}
-use Rattle.script_run.proofs.Executing.{take_more}
+use Rattle.pond_base.specs.declared.numbers.Party.{Party}
+use Rattle.pond_node.specs.Standing.{NodeStands}
+use Rattle.pond_world.specs.Sites.{SiteView, IsClashAfter}
+use Rattle.ring_model.specs.World.{IsLegal}
+use Rattle.ring_model.specs.Laws.{NoClash}
+use Rattle.ring_model.proofs.Lists.{Each-from_there}
+use Rattle.ring_world.specs.declared.event.Event.TheVariants as wevent
+use Rattle.ring_world.specs.declared.skips.Skips.{Skips}
+use Rattle.ring_world.specs.Deliveries.{settled, named_along, IsNamedIn}
+use Rattle.ring_world.specs.Settles.{Settles}
+use Rattle.ring_world.specs.Skipping.{is_skipped}
+use Rattle.ring_world.specs.Worlds.{WorldStands, strings_of}
+use Rattle.script_events.specs.Laws.{SubmitsAreRequests}
+use Rattle.script_names.specs.Laws.{AreOfLines, DeliveriesAreNamed, SettlesAreNamed, SkipsJoin, SettledJoins}
+use Rattle.script_names.proofs.Elements.{in_reverse}
+use Rattle.script_requests.specs.Holding.{HoldsAll, IsClashOf}
+use Rattle.script_terms.specs.declared.line.Line.{Line}
+use Rattle.script_terms.specs.declared.line.Line.TheVariants.{Deliver, Settle}
+use Rattle.script_terms.specs.declared.script.Script.{Script}
+use Rattle.text_model.specs.Events.{ring_for, events_of, world_of, is_passed, most_messages}
+use Rattle.text_model.specs.Named.{named, line_strings, committed_strings}
+use Rattle.text_model.specs.Requests.{Numbered}
+use Rattle.script_run.specs.States.{StandsNext, IsTurn, lines_before, namings_for}
+use Rattle.script_run.proofs.Coming.{Comes}
+use Rattle.script_run.proofs.Turns.{next_from, lines_more}
+use Rattle.script_run.proofs.Widening.{holds_wider, clash_among}
 
--- where so many of the requests of a state are executed, and the strings of their versions listed once more
-abbrev pub Settles : (List ℕ → List ℕ) → ℕ → List (List ℕ) → List Request → ℕ → StateView → Type 0
-Settles h block strings sent k state =
-    IsState h block (strings ++ executed_strings h block (reverse (take k (reverse sent)))) sent (reverse (take k (reverse sent))) state
+-- each line that was run stands in the script
+lines_among : (lines : List Numbered) (at : ℕ) → AllByRecursion (Contains lines) (reverse (take at lines))
+lines_among lines at =
+    Each-from_there (Contains lines) (reverse (take at lines))
+    (λ line c. subst (λ ls. Contains ls line) (take-append-drop at lines) (Contains-append_left (take at lines) (drop at lines) line (in_reverse (take at lines) line c)))
 
-reverse_both : (xs : List Request) (done : List Request) → xs ≡ reverse done → done ≡ reverse xs
-reverse_both xs done e = sym (reverse-reverse done) ∙ ap reverse (sym e)
+of_lines : SubmitsAreRequests → (h : List ℕ → List ℕ) (script : Script) (at : ℕ) (line : Line) (site : SiteView) (skips : Skips) → IsTurn h script at line site skips → AreOfLines h script (lines_before script at)
+of_lines submits h script at line site skips turn = record {
+  submits = submits h script (lines_before script at);
+  requests = turn.stands.requests;
+  among = lines_among script.lines at;
+}
 
--- at the start
-pub settles_none : (h : List ℕ → List ℕ) (block : ℕ) (strings : List (List ℕ)) (sent done : List Request) (state : StateView) (k : ℕ) → IsState h block strings sent done state → k ≡ length state.outcomes → Settles h block strings sent k state
-settles_none h block strings sent done state k is at =
-    let same : done ≡ reverse (take k (reverse sent)) = reverse_both (take k (reverse sent)) done (ap (λ n. take n (reverse sent)) at ∙ ap (take (length state.outcomes)) (sym is.requests) ∙ is.executed) in
-    subst (λ d. IsState h block (strings ++ executed_strings h block d) sent d state) same (record {
-      holds = holds_same h state.held strings (strings ++ executed_strings h block done) (λ s c. Contains-append_left strings (executed_strings h block done) s c)
-          (λ s c. elim (Contains-append_cases strings (executed_strings h block done) s c) as (λ _. Contains strings s) [ inl l ↦ l | inr r ↦ is.named s r ]) is.holds;
-      named = λ s c. Contains-append_right strings (executed_strings h block done) s c;
-      requests = is.requests;
-      executed = is.executed;
-      outcomes = is.outcomes;
-      objects = is.objects;
-    })
+-- what is named at a delivery is named up to its line
+pub delivery_named : SubmitsAreRequests → DeliveriesAreNamed → (h : List ℕ → List ℕ) (script : Script) (at : ℕ) (sender to : Party) (place : ℕ) (site : SiteView) (skips : Skips) → (turn : IsTurn h script at (Deliver sender to place) site skips)
+    → Comes h script at turn.number (Deliver sender to place) (wevent.Deliver sender to place) → NoClash (ring_for h script) (world_of h script (lines_before script at)).submits
+    → (s : List ℕ) → Contains (strings_of (ring_for h script) (namings_for h script) (world_of h script (lines_before script at)) (wevent.Deliver sender to place)) s
+    → Contains (named h script ((turn.number, Deliver sender to place) ∷ lines_before script at)) s
+delivery_named submits law h script at sender to place site skips turn comes apart s c =
+    let earlier = lines_before script at in
+    let line : Numbered = (turn.number, Deliver sender to place) in
+    let g = ring_for h script in
+    let legal : IsLegal g (events_of h script (line ∷ earlier)) = subst (IsLegal g) (sym comes.events) (comes.may_happen, turn.stands.stands.legal) in
+    let same : (world_of h script (line ∷ earlier)).submits ≡ (world_of h script earlier).submits = submits h script (line ∷ earlier) ∙ sym (submits h script earlier) in
+    law h script earlier line sender to place s refl turn.within.setup (of_lines submits h script at (Deliver sender to place) site skips turn) legal (subst (NoClash g) (sym same) apart) c
 
-first_more : (sent : List Request) (k : ℕ) (request : Request) → slice_get (reverse sent) k ≡ Some request → reverse (take (k + 1) (reverse sent)) ≡ request ∷ reverse (take k (reverse sent))
-first_more sent k request is = ap reverse (take_more (reverse sent) k request is) ∙ reverse-append (take k (reverse sent)) (request ∷ [])
+-- what a settle passes over, the script does
+passed_over : SkipsJoin → (h : List ℕ → List ℕ) (script : Script) (at : ℕ) (line : Line) (site : SiteView) (skips : Skips) → IsTurn h script at line site skips → is_skipped skips ≡ is_passed (lines_before script at)
+passed_over join h script at line site skips turn = join skips (lines_before script at) turn.stands.muted_are turn.stands.lost_are
 
--- one request more
-pub settles_more : (h : List ℕ → List ℕ) (block : ℕ) (strings : List (List ℕ)) (sent : List Request) (k : ℕ) (request : Request) (new : StateView) → slice_get (reverse sent) k ≡ Some request
-    → IsState h block ((strings ++ executed_strings h block (reverse (take k (reverse sent)))) ++ made_strings h block request (reverse (take k (reverse sent)))) sent (request ∷ reverse (take k (reverse sent))) new
-    → Settles h block strings sent (k + 1) new
-settles_more h block strings sent k request new here is =
-    let done = reverse (take k (reverse sent)) in
-    subst (λ d. IsState h block (strings ++ executed_strings h block d) sent d new) (sym (first_more sent k request here))
-    (subst (λ ss. IsState h block ss sent (request ∷ done) new) (append_assoc strings (executed_strings h block done) (made_strings h block request done)) is)
+-- what is named at a settle is named up to its line
+pub settle_named : SubmitsAreRequests → SkipsJoin → SettlesAreNamed → (h : List ℕ → List ℕ) (script : Script) (at : ℕ) (site : SiteView) (skips : Skips) → (turn : IsTurn h script at Settle site skips)
+    → NoClash (ring_for h script) (world_of h script (lines_before script at)).submits
+    → (s : List ℕ) → IsNamedIn (ring_for h script) (namings_for h script) (is_skipped skips) (events_of h script (lines_before script at)) s → Contains (named h script ((turn.number, Settle) ∷ lines_before script at)) s
+settle_named submits join law h script at site skips turn apart s is =
+    let earlier = lines_before script at in
+    let g = ring_for h script in
+    let events = events_of h script earlier in
+    law h script earlier (turn.number, Settle) is.0 s refl (omega (arith, is.1)) turn.within.setup (of_lines submits h script at Settle site skips turn) turn.stands.stands.legal apart
+    (subst (λ passed. Contains (named_along g (namings_for h script) events (settled g passed events is.0)) s) (passed_over join h script at Settle site skips turn) is.2)
 
-all_taken : {X : Type 0} (k : ℕ) (xs : List X) → length xs ≤ k → take k xs ≡ xs
-all_taken k xs most = grind (arith, common_steps)
+-- the world after a settle stands for the events up to its line
+pub settle_stands : SkipsJoin → SettledJoins → (h : List ℕ → List ℕ) (script : Script) (at : ℕ) (site : SiteView) (skips : Skips) (now : SiteView) (n : ℕ) → (turn : IsTurn h script at Settle site skips) → n ≤ most_messages
+    → Settles NodeStands (ring_for h script) (namings_for h script) (is_skipped skips) (events_of h script (lines_before script at)) now.world n
+    → WorldStands NodeStands (ring_for h script) (namings_for h script) now.world (events_of h script ((turn.number, Settle) ∷ lines_before script at))
+settle_stands join law h script at site skips now n turn few settles =
+    let earlier = lines_before script at in
+    let g = ring_for h script in
+    let events = events_of h script earlier in
+    let done : Settles NodeStands g (namings_for h script) (is_passed earlier) events now.world n =
+    subst (λ passed. Settles NodeStands g (namings_for h script) passed events now.world n) (passed_over join h script at Settle site skips turn) settles in
+    subst (WorldStands NodeStands g (namings_for h script) now.world) (sym (law g (is_passed earlier) events n few done.all)) done.is
 
--- all of them
-pub settles_all : (h : List ℕ → List ℕ) (block : ℕ) (strings : List (List ℕ)) (sent : List Request) (k : ℕ) (state : StateView) → length (reverse sent) ≤ k → Settles h block strings sent k state
-    → IsState h block (strings ++ executed_strings h block sent) sent sent state
-settles_all h block strings sent k state most is =
-    let whole : reverse (take k (reverse sent)) ≡ sent = ap reverse (all_taken k (reverse sent) most) ∙ reverse-reverse sent in
-    subst (λ d. IsState h block (strings ++ executed_strings h block d) sent d state) whole is
+-- the message at a place was delivered
+pub delivered_next : (h : List ℕ → List ℕ) (script : Script) (at : ℕ) (sender to : Party) (place : ℕ) (site now : SiteView) (skips : Skips) (Of : List ℕ → Type 0) → (turn : IsTurn h script at (Deliver sender to place) site skips)
+    → WorldStands NodeStands (ring_for h script) (namings_for h script) now.world (events_of h script ((turn.number, Deliver sender to place) ∷ lines_before script at)) → Grew h site.held Of now.held
+    → ((s : List ℕ) → Of s → Contains (named h script ((turn.number, Deliver sender to place) ∷ lines_before script at)) s)
+    → HoldsAll h now.held (committed_strings h script ((turn.number, Deliver sender to place) ∷ lines_before script at)) → StandsNext h script at now skips
+delivered_next h script at sender to place site now skips Of turn stands grew among all =
+    let earlier = lines_before script at in
+    next_from h script at turn.number (Deliver sender to place) now skips turn.here
+    (holds_wider h site.held now.held (named h script earlier) (committed_strings h script ((turn.number, Deliver sender to place) ∷ earlier)) Of turn.stands.holds grew among all)
+    stands turn.stands.muted_are turn.stands.lost_are turn.stands.requests
 
--- the strings of the first requests are among those of all
-executed_within : (h : List ℕ → List ℕ) (block : ℕ) (later done : List Request) (s : List ℕ) → Contains (executed_strings h block done) s → Contains (executed_strings h block (later ++ done)) s
-executed_within h block [] done s c = c
-executed_within h block (request ∷ later) done s c = Contains-append_left (executed_strings h block (later ++ done)) (made_strings h block request (later ++ done)) s (executed_within h block later done s c)
+-- all that was pending was delivered
+pub settled_next : (h : List ℕ → List ℕ) (script : Script) (at : ℕ) (site now : SiteView) (skips : Skips) (Of : List ℕ → Type 0) → (turn : IsTurn h script at Settle site skips)
+    → WorldStands NodeStands (ring_for h script) (namings_for h script) now.world (events_of h script ((turn.number, Settle) ∷ lines_before script at)) → Grew h site.held Of now.held
+    → ((s : List ℕ) → Of s → Contains (named h script ((turn.number, Settle) ∷ lines_before script at)) s)
+    → HoldsAll h now.held (committed_strings h script ((turn.number, Settle) ∷ lines_before script at)) → StandsNext h script at now skips
+settled_next h script at site now skips Of turn stands grew among all =
+    let earlier = lines_before script at in
+    next_from h script at turn.number Settle now skips turn.here
+    (holds_wider h site.held now.held (named h script earlier) (committed_strings h script ((turn.number, Settle) ∷ earlier)) Of turn.stands.holds grew among all)
+    stands turn.stands.muted_are turn.stands.lost_are turn.stands.requests
 
-pub first_within : (h : List ℕ → List ℕ) (block : ℕ) (sent : List Request) (k : ℕ) (s : List ℕ) → Contains (executed_strings h block (reverse (take k (reverse sent)))) s → Contains (executed_strings h block sent) s
-first_within h block sent k s c =
-    let whole : reverse (drop k (reverse sent)) ++ reverse (take k (reverse sent)) ≡ sent =
-    sym (reverse-append (take k (reverse sent)) (drop k (reverse sent))) ∙ ap reverse (take-append-drop k (reverse sent)) ∙ reverse-reverse sent in
-    subst (λ d. Contains (executed_strings h block d) s) whole (executed_within h block (reverse (drop k (reverse sent))) (reverse (take k (reverse sent))) s c)
-
--- a clash at one of them
-pub settles_clash : (h : List ℕ → List ℕ) (block : ℕ) (strings : List (List ℕ)) (sent : List Request) (k : ℕ) (request : Request) (fault : NameFault) → slice_get (reverse sent) k ≡ Some request
-    → IsClashOf h ((strings ++ executed_strings h block (reverse (take k (reverse sent)))) ++ made_strings h block request (reverse (take k (reverse sent)))) fault
-    → IsClashOf h (strings ++ executed_strings h block sent) fault
-settles_clash h block strings sent k request fault here clash =
-    let done = reverse (take k (reverse sent)) in
-    let joined = subst (λ ss. IsClashOf h ss fault) (append_assoc strings (executed_strings h block done) (made_strings h block request done)) clash in
-    let next : executed_strings h block (request ∷ done) ≡ executed_strings h block (reverse (take (k + 1) (reverse sent))) = ap (executed_strings h block) (sym (first_more sent k request here)) in
-    clash_more h (strings ++ executed_strings h block (request ∷ done)) (strings ++ executed_strings h block sent) fault
-    (λ s c. elim (Contains-append_cases strings (executed_strings h block (request ∷ done)) s c) as (λ _. Contains (strings ++ executed_strings h block sent) s) [
-      | inl l ↦ Contains-append_left strings (executed_strings h block sent) s l
-      | inr r ↦ Contains-append_right strings (executed_strings h block sent) s (first_within h block sent (k + 1) s (subst (λ ss. Contains ss s) next r))
-    ]) joined
-
--- the request at a place
-pub there : (requests sent : List Request) (k : ℕ) → requests ≡ reverse sent → k < length requests → (request : Request) × (slice_get (reverse sent) k ≡ Some request)
-there requests sent k same here = by (reverse sent) (subst (λ xs. k < length xs) same here)
-  where
-    by : (xs : List Request) → k < length xs → (request : Request) × (slice_get xs k ≡ Some request)
-    by [] l = absurd (omega arith)
-    by (x ∷ xs) l = (get_or (x ∷ xs) k x, slice_get-get_or (x ∷ xs) k x l)
+-- a clash at a line is one of the strings that are named up to it
+pub clash_here : (h : List ℕ → List ℕ) (script : Script) (at : ℕ) (line : Line) (site : SiteView) (skips : Skips) (Of : List ℕ → Type 0) (fault : NameFault) → (turn : IsTurn h script at line site skips)
+    → ((s : List ℕ) → Of s → Contains (named h script ((turn.number, line) ∷ lines_before script at)) s) → IsClashAfter h site.held Of fault → IsClashOf h (named h script (lines_before script (at + 1))) fault
+clash_here h script at line site skips Of fault turn among after =
+    let earlier = lines_before script at in
+    let whole = named h script ((turn.number, line) ∷ earlier) in
+    subst (λ lines. IsClashOf h (named h script lines) fault) (sym (lines_more script at (turn.number, line) turn.here))
+    (clash_among h site.held (named h script earlier) whole Of fault turn.stands.holds (λ s c. Contains-append_left (named h script earlier) (line_strings h script earlier (turn.number, line)) s c) among after)

@@ -3,6 +3,7 @@ use Rattle.std.specs.Prelude.{◌≡◌, ℕ, Option, List, ◌∷◌, reverse, 
 use Rattle.std.specs.Io.KnownBytes.{Appends}
 use Rattle.pond_base.specs.Outside.{Rose, AppendsPrefix}
 use Rattle.script_terms.specs.declared.script.Script.{Script}
+use Rattle.script_agreement.specs.OneList.{IsOneList}
 use Rattle.script_run.specs.declared.running.End.{End}
 use Rattle.script_run.specs.declared.running.End.TheVariants.{Done, WriteFault, Clash, Memory}
 use Rattle.text_model.specs.Clashes.{NoClash, IsFirstClash, IsClash, has_clash}
@@ -29,9 +30,9 @@ TakesUntilFault sink text = AppendsPrefix sink.before sink.after text × Rose si
 abbrev pub IsClear : (List ℕ → List ℕ) → Script → List Numbered → Type 0
 IsClear h script before = NoClash h (named h script before)
 
--- what an end of a run says
+-- What an end of a run says. Where it is done, what members executed is one list.
 abbrev pub Says : (List ℕ → List ℕ) → Script → Taking → End → Type 0
-Says h script sink Done = Takes sink (text_of h script) × IsClear h script (reverse script.lines)
+Says h script sink Done = Takes sink (text_of h script) × IsClear h script (reverse script.lines) × IsOneList h script (reverse script.lines)
 Says h script sink WriteFault = TakesUntilFault sink (text_of h script)
 Says h script sink (Clash line old new) = Takes sink (text_of h script) × IsFirstClash h script line old new
 Says h script sink Memory = AppendsPrefix sink.before sink.after (text_of h script)
@@ -39,7 +40,7 @@ Says h script sink Memory = AppendsPrefix sink.before sink.after (text_of h scri
 -- what is written at a line after earlier ones: its text, or that it is the first up to which two named strings clash
 abbrev pub written_at : (List ℕ → List ℕ) → Script → List Numbered → Numbered → List ℕ
 written_at h script before line =
-    if has_clash h (named h script (line ∷ before)) then clash_line line.0 else line_text h script.setup.block before line.1
+    if has_clash h (named h script (line ∷ before)) then clash_line line.0 else line_text h script before line.1
 
 -- what an early end says of the strings and the text up to where it comes; a run is never done there
 abbrev pub EndsAt : (List ℕ → List ℕ) → List (List ℕ) → ℕ → List ℕ → Taking → End → Type 0

@@ -1,3 +1,2 @@
 pub mod States
 pub mod Ends
-pub mod Printed

@@ -1,52 +1,87 @@
--- What the state of a run stands for. Lists of lines and of requests have the newest first; a state keeps its requests and
--- outcomes with the oldest first. Throughout, h names byte strings, and block is how many bytes a whole leaf has.
-use Rattle.std.specs.Prelude.{◌≡◌, ◌<◌, ◌≤◌, ◌^◌, ℕ, List, [], ◌∷◌, length, reverse, take, Contains}
-use Rattle.block_names.specs.Held.{Held}
-use Rattle.guarded_update.specs.declared.request.Request.{Request}
-use Rattle.object_fold.specs.Views.{ObjectsView}
-use Rattle.object_fold.specs.Executed.{AreAfter, AreKnown, outcome_after}
-use Rattle.ring_message.specs.declared.outcome.Outcome.{Outcome}
+-- What the state of a run stands for. Lists of lines have the newest first. Throughout, h names byte strings.
+use Rattle.std.specs.Prelude.{◌≡◌, ◌+◌, ℕ, List, reverse, take, slice_get, Some}
+use Rattle.std.specs.List.{AllByRecursion}
+use Rattle.guarded_update.specs.Fitting.{IsRequest}
+use Rattle.pond_base.specs.declared.numbers.MemberId.{MemberId}
+use Rattle.pond_base.specs.declared.numbers.Party.{Party}
+use Rattle.ring_message.specs.declared.message.Message.{Message}
+use Rattle.ring_message.specs.Grammar.{MessageFits}
+use Rattle.ring_model.specs.Messages as model
+use Rattle.ring_model.specs.World.{World}
+use Rattle.message_model.specs.Meaning.{said}
+use Rattle.fold_model.specs.Folds.{namings_by}
+use Rattle.pond_node.specs.Standing.{NodeStands}
+use Rattle.ring_node.specs.Naming.{Namings}
+use Rattle.ring_world.specs.declared.event.Event.{Event}
+use Rattle.ring_world.specs.declared.event.Event.TheVariants as wevent
+use Rattle.ring_world.specs.declared.skips.Skips.{Skips}
+use Rattle.ring_world.specs.Worlds.{WorldStands}
+use Rattle.pond_world.specs.Sites.{SiteView}
+use Rattle.script_terms.specs.declared.line.Line.{Line}
+use Rattle.script_terms.specs.declared.line.Line.TheVariants.{ForgeOrder, ForgePrepare, ForgeCommit}
 use Rattle.script_terms.specs.declared.script.Script.{Script}
-use Rattle.text_model.specs.Named.{named, executed_strings}
+use Rattle.script_limits.specs.Limits.{IsWithin}
 use Rattle.script_requests.specs.Holding.{HoldsJust}
-use Rattle.text_model.specs.Requests.{Numbered, submitted, settled}
+use Rattle.script_events.specs.Events.{IsEventOf}
+use Rattle.text_model.specs.Events.{ring_for, world_of, events_of, muted, lost, asked_string}
+use Rattle.text_model.specs.Named.{named}
+use Rattle.text_model.specs.Requests.{Numbered, submitted}
+use Rattle.text_model.specs.Text.{line_text}
 
--- a state: what its book holds, its objects, the requests that were submitted, and the outcomes of the first of them
-pub record StateView : Type 0 where
-  pub held : Held
-  pub objects : ObjectsView
-  pub requests : List Request
-  pub outcomes : List Outcome
+-- the strings that executions name
+abbrev pub namings_for : (List ℕ → List ℕ) → Script → Namings
+namings_for h script = namings_by h script.setup.block
 
--- the outcomes of requests, one a request
-abbrev pub outcomes_of : (List ℕ → List ℕ) → ℕ → List Request → List Outcome
-outcomes_of h block [] = []
-outcomes_of h block (request ∷ earlier) = outcome_after h block request earlier ∷ outcomes_of h block earlier
+-- Some lines of a script were run: the book holds just the strings that they name, the world stands for the events that they are, and what is passed over is what they say.
+pub record StandsFor (h : List ℕ → List ℕ) (script : Script) (lines : List Numbered) (site : SiteView) (skips : Skips) : Type 0 where
+  pub holds : HoldsJust h site.held (named h script lines)
+  pub stands : WorldStands NodeStands (ring_for h script) (namings_for h script) site.world (events_of h script lines)
+  pub muted_are : skips.muted.items ≡ muted lines
+  pub lost_are : skips.lost.items ≡ lost lines
+  pub requests : AllByRecursion IsRequest (submitted h lines)
 
--- each state: its book holds the strings of its objects, and not more requests were executed than submitted
-pub record IsSound (h : List ℕ → List ℕ) (state : StateView) : Type 0 where
-  pub known : AreKnown h state.held state.objects
-  pub made : length state.objects.made ≤ length state.outcomes
-  pub executed : length state.outcomes ≤ length state.requests
-  pub few : length state.requests < 2 ^ 32
+-- the lines before a place
+abbrev pub lines_before : Script → ℕ → List Numbered
+lines_before script at = reverse (take at script.lines)
 
--- a state in which some strings were named, some requests sent, and some of those executed, whose versions' strings were named
-pub record IsState (h : List ℕ → List ℕ) (block : ℕ) (strings : List (List ℕ)) (sent done : List Request) (state : StateView) : Type 0 where
-  pub holds : HoldsJust h state.held strings
-  pub named : (string : List ℕ) → Contains (executed_strings h block done) string → Contains strings string
-  pub requests : state.requests ≡ reverse sent
-  pub executed : take (length state.outcomes) state.requests ≡ reverse done
-  pub outcomes : state.outcomes ≡ reverse (outcomes_of h block done)
-  pub objects : AreAfter h block done state.objects
+-- the lines before a place were run, and there stands this line
+pub record IsTurn (h : List ℕ → List ℕ) (script : Script) (at : ℕ) (line : Line) (site : SiteView) (skips : Skips) : Type 0 where
+  pub within : IsWithin script
+  pub number : ℕ
+  pub here : slice_get script.lines at ≡ Some (number, line)
+  pub stands : StandsFor h script (lines_before script at) site skips
 
--- whatever a state stands for, a fact holds of it
-abbrev pub ForState : (List ℕ → List ℕ) → StateView → (ℕ → List (List ℕ) → List Request → List Request → Type 0) → Type 0
-ForState h state P = (block : ℕ) (strings : List (List ℕ)) (sent done : List Request) → IsState h block strings sent done state → P block strings sent done
+-- the line that comes is this event of the world
+pub record IsComing (h : List ℕ → List ℕ) (script : Script) (at : ℕ) (event : Event) (site : SiteView) (skips : Skips) : Type 0 where
+  pub line : Line
+  pub turn : IsTurn h script at line site skips
+  pub is_event : IsEventOf h script (lines_before script at) line event
 
--- the state of a script after some of its lines
-abbrev pub StandsFor : (List ℕ → List ℕ) → Script → List Numbered → StateView → Type 0
-StandsFor h script before state = IsState h script.setup.block (named h script before) (submitted h before) (settled h before) state
+-- a line has a faulty member send this message, where the world is this one
+abbrev pub Forges : (List ℕ → List ℕ) → model.Ring → World → Line → MemberId → Party → model.Message → Type 0
+Forges h g w (ForgeOrder by whom seq client number) member to message = (by ≡ member) × (whom ≡ to) × (message ≡ model.PrePrepare seq.0 (asked_string g w client number))
+Forges h g w (ForgePrepare by whom seq client number) member to message = (by ≡ member) × (whom ≡ to) × (message ≡ model.Prepare seq.0 (h (asked_string g w client number)))
+Forges h g w (ForgeCommit by whom seq client number) member to message = (by ≡ member) × (whom ≡ to) × (message ≡ model.Commit seq.0 (h (asked_string g w client number)))
+Forges h g w line member to message = ⊥
 
--- whatever lines of a script a state stands for, a fact holds of them
-abbrev pub ForLines : (List ℕ → List ℕ) → StateView → (Script → List Numbered → Type 0) → Type 0
-ForLines h state P = (script : Script) (before : List Numbered) → StandsFor h script before state → P script before
+-- the line that comes has a faulty member send this message, which has a spelling
+pub record IsForgery (h : List ℕ → List ℕ) (script : Script) (at : ℕ) (member : MemberId) (to : Party) (message : Message) (site : SiteView) (skips : Skips) : Type 0 where
+  pub line : Line
+  pub turn : IsTurn h script at line site skips
+  pub forges : Forges h (ring_for h script) (world_of h script (lines_before script at)) line member to (said message)
+  pub fits : MessageFits message
+
+-- what is left after a line is left in the same way after the next one
+abbrev pub StandsNext : (List ℕ → List ℕ) → Script → ℕ → SiteView → Skips → Type 0
+StandsNext h script at site skips = StandsFor h script (lines_before script (at + 1)) site skips
+
+-- what the line at a place prints
+abbrev pub PrintsAt : (List ℕ → List ℕ) → Script → ℕ → List ℕ → Type 0
+PrintsAt h script at printed = (line : Numbered) → slice_get script.lines at ≡ Some line → printed ≡ line_text h script (lines_before script at) line.1
+
+-- an event that names nothing
+abbrev pub IsQuiet : Event → Type 0
+IsQuiet (wevent.Submit client label update) = ⊥
+IsQuiet (wevent.Resubmit client number) = Unit {0}
+IsQuiet (wevent.Deliver from to place) = ⊥
+IsQuiet (wevent.Forge member to bytes) = Unit {0}

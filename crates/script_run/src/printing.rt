@@ -1,187 +1,111 @@
 // What lines print.
-ghost use Rattle.std.specs.Prelude.{◌≡◌, ◌∷◌, ◌++◌, ◌+◌, ℕ, List, length, string_bytes, IfOk, OnOk};
-ghost use Rattle.block_names.specs.Held.{Held};
-ghost use Rattle.object_model.specs.Folds.{Effect, versions_after};
-ghost use Rattle.object_model.specs.Trees.{strings_so_far, first_times};
-ghost use Rattle.object_fold.specs.Executed.{outcome_of};
-ghost use Rattle.cow_tree.specs.Versions.{StandsFor};
-ghost use Rattle.text_model.specs.Blocks as model;
-ghost use Rattle.text_model.specs.Text as text;
-ghost use Rattle.script_run.specs.Printed.{HasJust};
-ghost use Rattle.script_run.specs.States.{ForState, ForLines};
+ghost use Rattle.std.specs.Prelude.{◌≡◌, ◌<◌, length, string_bytes, IfOk};
+ghost use Rattle.script_limits.specs.Limits.{IsWithin};
+ghost use Rattle.pond_base.specs.declared.numbers.ClientId.{ClientId};
+ghost use Rattle.script_terms.specs.declared.line.Line.TheVariants.{Read, ShowMember, ShowVersion, ShowRecent};
+ghost use Rattle.text_model.specs.Text.{line_text};
+ghost use Rattle.script_run.specs.States.{StandsFor, IsTurn, PrintsAt, lines_before};
 
 use crate::state::State;
 use block_names::Hash160;
-use bytes::Bytes;
-use cow_tree::Tree;
-use guarded_update::Request;
+use fold_model::ring_folds;
 use pond_base::{Label, MemberId, OutOfMemory, Version};
-use ring_message::Outcome;
-use script_terms::Line;
-use std::alloc::Global;
-use std::collections::BTreeSet;
+use script_events::{setups_join, submits_are_requests};
+use script_limits::lines_fit_in_turn;
+use script_printing as printing;
+use script_terms::{Line, Script};
 
-/// What a line prints.
+/// What the line at a place prints.
 pub(crate) fn line_text<H: Hash160 + Drop>(
     state: &State<H>,
-    line: &Line,
+    script: &Script,
+    at: usize,
 ) -> Result<String, OutOfMemory>
-    ensures { IfOk result (λ printed. ForLines H.naming state.now (λ script before. string_bytes printed ≡ text.line_text H.naming script.setup.block before line.now)) }
+    requires within { IsWithin script.now }
+    requires here { at < length script.now.lines }
+    requires stands { StandsFor H.naming script.now (lines_before script.now at) state.now.site state.now.skips }
+    ensures { IfOk result (λ printed. PrintsAt H.naming script.now at (string_bytes printed)) }
 {
+    let (_, line) = &script.lines.as_slice()[at];
     match line {
-        Line::Submit { .. } | Line::Settle => Ok(String::new(state.alloc)),
-        Line::Read { label, .. } => read_text(state, label),
-        Line::ShowMember { member } => member_text(state, *member),
-        Line::ShowVersion { label, version, .. } => shape_text(state, label, *version),
+        Line::Read { label, .. } => read_text(state, script, at, label),
+        Line::ShowMember { member } => member_text(state, script, at, *member),
+        Line::ShowVersion {
+            member,
+            label,
+            version,
+        } => shape_text(state, script, at, *member, label, *version),
+        Line::ShowRecent => recent_text(state, script, at),
+        _ => Ok(String::new(state.alloc)),
     }
 }
 
-// What a read prints: the newest version, or that none was made.
-fn read_text<H: Hash160 + Drop>(state: &State<H>, label: &Label) -> Result<String, OutOfMemory>
-    ensures { IfOk result (λ printed. ForState H.naming state.now (λ block strings sent done. string_bytes printed ≡ model.read_text (versions_after H.naming block label.now done))) }
-{
-    let alloc = state.alloc;
-    let last = state.objects.last(label);
-    if last.0 == 0 {
-        return Ok(String::from_str(alloc, "no heart\n")?);
-    }
-    match state.objects.tree(label, last) {
-        Some(tree) => version_line(alloc, last.0, &tree.bytes()?),
-        None => Ok(String::from_str(alloc, "no heart\n")?),
-    }
-}
-
-// The line of a version.
-fn version_line(alloc: Global, version: u32, bytes: &[u8]) -> Result<String, OutOfMemory>
-    ensures { IfOk result (λ printed. string_bytes printed ≡ model.version_line version bytes.now) }
-{
-    let length = bytes.len();
-    let digits = printed_bytes(alloc, bytes)?;
-    Ok(format!(in alloc; "version {version} length {length} {digits}\n")?)
-}
-
-// Bytes as hexadecimal digits, and none as a dash.
-fn printed_bytes(alloc: Global, bytes: &[u8]) -> Result<String, OutOfMemory>
-    ensures { IfOk result (λ printed. string_bytes printed ≡ model.printed_bytes bytes.now) }
-{
-    if bytes.is_empty() {
-        return Ok(String::from_str(alloc, "-")?);
-    }
-    Ok(hex::encode(alloc, bytes)?)
-}
-
-// What a member executed.
-fn member_text<H: Hash160 + Drop>(state: &State<H>, member: MemberId) -> Result<String, OutOfMemory>
-    ensures { IfOk result (λ printed. ForState H.naming state.now (λ block strings sent done. string_bytes printed ≡ model.member_text H.naming block member done)) }
-{
-    let alloc = state.alloc;
-    let count = state.outcomes.len();
-    let member = member.0;
-    let mut text = format!(in alloc; "member {member} executed {count}\n")?;
-    let requests = state.requests.as_slice();
-    for (i, outcome) in state.outcomes.as_slice().iter().enumerate() {
-        let line = executed_line(alloc, i + 1, &requests[i], outcome)?;
-        text.push_str(&line)?;
-    }
-    Ok(text)
-}
-
-// The line of an executed request: its slot, its client, its number and its outcome.
-fn executed_line(
-    alloc: Global,
-    slot: usize,
-    request: &Request,
-    outcome: &Outcome,
+// What a read prints: the last version of the label that the committed list makes.
+fn read_text<H: Hash160 + Drop>(
+    state: &State<H>,
+    script: &Script,
+    at: usize,
+    label: &Label,
 ) -> Result<String, OutOfMemory>
-    ensures { IfOk result (λ printed. (h : List ℕ → List ℕ) (block : ℕ) (effect : Effect) (versions : List (List ℕ)) → outcome.now ≡ outcome_of h block effect versions
-        → string_bytes printed ≡ model.slot_line slot request.now (model.outcome_text (length versions) effect)) }
+    requires within { IsWithin script.now }
+    requires stands { StandsFor H.naming script.now (lines_before script.now at) state.now.site state.now.skips }
+    ensures { IfOk result (λ printed. (client : ClientId) → string_bytes printed ≡ line_text H.naming script.now (lines_before script.now at) (Read client label.now)) }
 {
-    let client = request.client.0;
-    let number = request.number;
-    let outcome = outcome_text(alloc, outcome)?;
-    Ok(format!(in alloc; "{slot} c{client} {number} {outcome}\n")?)
+    setups_join();
+    ring_folds();
+    let objects = state.site.world().committed().objects();
+    printing::read_text(state.alloc, objects, label)
 }
 
-// An outcome in words.
-fn outcome_text(alloc: Global, outcome: &Outcome) -> Result<String, OutOfMemory>
-    ensures { IfOk result (λ printed. (h : List ℕ → List ℕ) (block : ℕ) (effect : Effect) (versions : List (List ℕ)) → outcome.now ≡ outcome_of h block effect versions
-        → string_bytes printed ≡ model.outcome_text (length versions) effect) }
+// What is shown of a member.
+fn member_text<H: Hash160 + Drop>(
+    state: &State<H>,
+    script: &Script,
+    at: usize,
+    member: MemberId,
+) -> Result<String, OutOfMemory>
+    requires { IsTurn H.naming script.now at (ShowMember member) state.now.site state.now.skips }
+    ensures { IfOk result (λ printed. string_bytes printed ≡ line_text H.naming script.now (lines_before script.now at) (ShowMember member)) }
 {
-    match outcome {
-        Outcome::Made { version, .. } => {
-            let version = version.0;
-            Ok(format!(in alloc; "made {version}")?)
-        }
-        Outcome::NoClause => Ok(String::from_str(alloc, "no clause")?),
-        Outcome::OutOfRange => Ok(String::from_str(alloc, "out of range")?),
-        Outcome::TooLong => Ok(String::from_str(alloc, "too long")?),
-        Outcome::Repeat => Ok(String::from_str(alloc, "repeat")?),
+    setups_join();
+    ring_folds();
+    submits_are_requests();
+    lines_fit_in_turn();
+    match state.site.world().node(member) {
+        Some(node) => printing::member_text(state.alloc, member, node),
+        None => printing::faulty_text(state.alloc, member),
     }
 }
 
-// The shape of a version: its length, its height, its strings, and how many of them are new.
+// What is shown of a version that a member holds.
 fn shape_text<H: Hash160 + Drop>(
     state: &State<H>,
+    script: &Script,
+    at: usize,
+    member: MemberId,
     label: &Label,
     version: Version,
 ) -> Result<String, OutOfMemory>
-    ensures { IfOk result (λ printed. ForState H.naming state.now (λ block strings sent done. string_bytes printed ≡ model.shape_text H.naming block (model.up_to version.0 (versions_after H.naming block label.now done)))) }
+    requires { IsTurn H.naming script.now at (ShowVersion member label.now version) state.now.site state.now.skips }
+    ensures { IfOk result (λ printed. string_bytes printed ≡ line_text H.naming script.now (lines_before script.now at) (ShowVersion member label.now version)) }
 {
-    let alloc = state.alloc;
-    match state.objects.tree(label, version) {
-        None => Ok(String::from_str(alloc, "no version\n")?),
-        Some(tree) => {
-            let known = strings_before(state, label, version)?;
-            shape_line(alloc, tree, known)
-        }
+    setups_join();
+    ring_folds();
+    lines_fit_in_turn();
+    match state.site.world().node(member) {
+        Some(node) => printing::shape_text(state.alloc, node.objects(), label, version),
+        None => printing::faulty_text(state.alloc, member),
     }
 }
 
-// The strings of all versions of a label below a number.
-fn strings_before<H: Hash160 + Drop>(
+// What is shown of the last deliveries.
+fn recent_text<H: Hash160 + Drop>(
     state: &State<H>,
-    label: &Label,
-    version: Version,
-) -> Result<BTreeSet<Bytes>, OutOfMemory>
-    ensures { IfOk result (λ known. ForState H.naming state.now (λ block strings sent done. (content : List ℕ) (older : List (List ℕ)) → model.up_to version.0 (versions_after H.naming block label.now done) ≡ content ∷ older
-        → HasJust known (strings_so_far H.naming block older))) }
+    script: &Script,
+    at: usize,
+) -> Result<String, OutOfMemory>
+    requires { StandsFor H.naming script.now (lines_before script.now at) state.now.site state.now.skips }
+    ensures { IfOk result (λ printed. string_bytes printed ≡ line_text H.naming script.now (lines_before script.now at) ShowRecent) }
 {
-    let mut known = BTreeSet::new(state.alloc);
-    for number in 0..version.0 {
-        if let Some(tree) = state.objects.tree(label, Version(number)) {
-            add_all(&mut known, tree.strings()?)?;
-        }
-    }
-    Ok(known)
-}
-
-// The line of a version whose older ones have some strings.
-fn shape_line(alloc: Global, tree: &Tree, mut known: BTreeSet<Bytes>) -> Result<String, OutOfMemory>
-    ensures { IfOk result (λ printed. (h : List ℕ → List ℕ) (block : ℕ) (content : List ℕ) (older : List (List ℕ)) → StandsFor h block tree.now content older → HasJust known (strings_so_far h block older)
-        → string_bytes printed ≡ model.shape_line h block content older) }
-{
-    let root = tree.root();
-    let strings = tree.strings()?;
-    let count = strings.len();
-    let fresh = add_all(&mut known, strings)?;
-    let version = root.version.0;
-    let length = root.length;
-    let height = root.height;
-    Ok(format!(in alloc;
-        "version {version} length {length} height {height} strings {count} new {fresh}\n"
-    )?)
-}
-
-// Adds strings to known ones, and answers how many of them were new, each counted once.
-fn add_all(known: &mut BTreeSet<Bytes>, strings: Vec<Bytes>) -> Result<usize, OutOfMemory>
-    ensures known { OnOk result ((before : List (List ℕ)) → HasJust known.old before → HasJust known.new (before ++ strings.items)) }
-    ensures count { IfOk result (λ count. (before : List (List ℕ)) → HasJust known.old before → count ≡ length (first_times before strings.items)) }
-{
-    let mut count = 0usize;
-    for string in strings {
-        if known.insert(string)? {
-            count += 1;
-        }
-    }
-    Ok(count)
+    printing::recent_text(state.alloc, state.site.world().recent())
 }

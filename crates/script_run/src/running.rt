@@ -1,26 +1,30 @@
 // A run of a script.
-ghost use Rattle.std.specs.Prelude.{◌≡◌, ◌∷◌, ◌+◌, ◌<◌, ◌^◌, List, ℕ, length, true, IfOk, IfErr, string_bytes};
-ghost use Rattle.script_limits.specs.Limits.{LineFits, IsWithin};
+ghost use Rattle.std.specs.Prelude.{◌≡◌, ◌∷◌, ◌<◌, List, ℕ, length, slice_get, Some, true, IfOk, IfErr, string_bytes};
+ghost use Rattle.script_limits.specs.Limits.{IsWithin};
 ghost use Rattle.script_requests.specs.Holding.{IsClashOf};
 ghost use Rattle.text_model.specs.Clashes.{has_clash};
 ghost use Rattle.text_model.specs.Named.{named};
+ghost use Rattle.text_model.specs.Requests.{Numbered};
 ghost use Rattle.text_model.specs.Text as model;
 ghost use Rattle.script_run.specs.Ends.{Says, EndsAt, Takes, written_at};
-ghost use Rattle.script_run.specs.States.{ForLines, StandsFor};
+ghost use Rattle.script_run.specs.States.{StandsFor, StandsNext, lines_before};
 
 use crate::printing::line_text;
 use crate::state::State;
 use block_names::{Hash160, NameFault};
 use bytes::Bytes;
 use pond_base::{OutOfMemory, Sink, write_whole};
-use script_terms::{Line, Script};
+use script_agreement::lists_are_one;
+use script_events::submits_are_requests;
+use script_terms::Script;
 use std::alloc::Global;
 use std::thread::Threads;
 
 /// How a run ends.
 #[derive(Debug, Drop)]
 pub enum End {
-    /// The whole text was taken by the sink, and no two strings clash.
+    /// The whole text was taken by the sink, and no two strings clash. What correct members executed
+    /// after any of the lines is how one list began, which only grew.
     Done,
     /// A take of the sink failed. A prefix of the text was taken.
     WriteFault,
@@ -51,12 +55,14 @@ pub fn run<R: Threads, H: Hash160 + Drop, K: Sink>(
       faults_after = K.faults sink.new;
     }) result }
 {
+    submits_are_requests();
+    lists_are_one();
     let mut state = match State::new(alloc, script, hash) {
         Ok(state) => state,
         Err(fault) => return end_at(alloc, 0, fault, sink),
     };
-    for (number, line) in script.lines.as_slice() {
-        state = match after_line(state, alloc, *number, line, sink) {
+    for at in 0..script.lines.len() {
+        state = match after_line(state, alloc, script, at, sink) {
             Ok(state) => state,
             Err(end) => return end,
         };
@@ -68,30 +74,33 @@ pub fn run<R: Threads, H: Hash160 + Drop, K: Sink>(
 fn after_line<H: Hash160 + Drop, K: Sink>(
     state: State<H>,
     alloc: Global,
-    number: u32,
-    line: &Line,
+    script: &Script,
+    at: usize,
     sink: &mut K,
 ) -> Result<State<H>, End>
-    requires fits { LineFits line.now }
-    requires room { length state.requests + 1 < 2 ^ 32 }
-    ensures stands { IfOk result (λ after. ForLines H.naming state (λ script before. StandsFor H.naming script ((number, line.now) ∷ before) after)) }
-    ensures takes { IfOk result (λ after. ForLines H.naming state (λ script before. Takes (record {
+    requires within { IsWithin script.now }
+    requires here { at < length script.now.lines }
+    requires stands { StandsFor H.naming script.now (lines_before script.now at) state.site state.skips }
+    ensures stands { IfOk result (λ after. StandsNext H.naming script.now at after.site after.skips) }
+    ensures takes { IfOk result (λ after. (line : Numbered) → slice_get script.now.lines at ≡ Some line → Takes (record {
       before = K.taken sink.old;
       after = K.taken sink.new;
       faults_before = K.faults sink.old;
       faults_after = K.faults sink.new;
-    }) (model.line_text H.naming script.setup.block before line.now))) }
-    ensures ends { IfErr result (λ end. ForLines H.naming state (λ script before. EndsAt H.naming (named H.naming script ((number, line.now) ∷ before)) number (written_at H.naming script before (number, line.now)) (record {
-      before = K.taken sink.old;
-      after = K.taken sink.new;
-      faults_before = K.faults sink.old;
-      faults_after = K.faults sink.new;
-    }) end)) }
+    }) (model.line_text H.naming script.now (lines_before script.now at) line.1)) }
+    ensures ends { IfErr result (λ end. (line : Numbered) → slice_get script.now.lines at ≡ Some line
+        → EndsAt H.naming (named H.naming script.now (line ∷ lines_before script.now at)) line.0 (written_at H.naming script.now (lines_before script.now at) line) (record {
+          before = K.taken sink.old;
+          after = K.taken sink.new;
+          faults_before = K.faults sink.old;
+          faults_after = K.faults sink.new;
+        }) end) }
 {
-    let Ok(text) = line_text(&state, line) else {
+    let number = script.lines.as_slice()[at].0;
+    let Ok(text) = line_text(&state, script, at) else {
         return Err(End::Memory);
     };
-    let state = match state.after(line) {
+    let state = match state.after(script, at) {
         Ok(state) => state,
         Err(fault) => return Err(end_at(alloc, number, fault, sink)),
     };

@@ -1,4 +1,5 @@
 // What a script declares before its events.
+use pond_base::{ClientId, MemberId};
 
 /// What a script declares before its events.
 #[derive(Clone, Copy, Debug, PartialEq, Eq)]
@@ -7,8 +8,12 @@ pub enum Declaration {
     Pond,
     /// How many faulty members the ring tolerates.
     Ring { f: u8 },
+    /// A member that is faulty.
+    Faulty { member: MemberId },
     /// How many bytes a whole leaf has.
     Block { size: u32 },
     /// How many clients there are.
     Clients { count: u8 },
+    /// At which member a client reads.
+    Home { client: ClientId, member: MemberId },
 }

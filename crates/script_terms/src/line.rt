@@ -1,7 +1,7 @@
 // The events of a script.
 use bytes::Bytes;
 use guarded_update::Action;
-use pond_base::{ClientId, Items, Label, MemberId, Version};
+use pond_base::{ClientId, Items, Label, MemberId, Party, Seq, Version};
 
 /// An event of a script.
 #[derive(Debug, Drop)]
@@ -12,8 +12,63 @@ pub enum Line {
         label: Label,
         clauses: Items<LineClause>,
     },
+    /// The client sends its request of the number again.
+    Resubmit {
+        client: ClientId,
+        number: u32,
+    },
+    /// The message at a place, from 1, among those that a party sent to another is delivered.
+    Deliver {
+        from: Party,
+        to: Party,
+        place: u32,
+    },
+    /// From now on that message is passed over where all that was sent is delivered.
+    Lose {
+        from: Party,
+        to: Party,
+        place: u32,
+    },
     /// All that was sent is delivered.
     Settle,
+    /// From now on messages from and to the party are passed over there.
+    Mute {
+        party: Party,
+    },
+    /// From now on they are no more.
+    Unmute {
+        party: Party,
+    },
+    /// The faulty member sends an order of the client's request of the number for a slot.
+    ForgeOrder {
+        member: MemberId,
+        to: Party,
+        seq: Seq,
+        client: ClientId,
+        number: u32,
+    },
+    /// It sends a prepare of that request's name for a slot.
+    ForgePrepare {
+        member: MemberId,
+        to: Party,
+        seq: Seq,
+        client: ClientId,
+        number: u32,
+    },
+    /// It sends a commit of that request's name for a slot.
+    ForgeCommit {
+        member: MemberId,
+        to: Party,
+        seq: Seq,
+        client: ClientId,
+        number: u32,
+    },
+    /// It sends any bytes.
+    ForgeRaw {
+        member: MemberId,
+        to: Party,
+        bytes: Bytes,
+    },
     /// The client reads the last version that it knows.
     Read {
         client: ClientId,
@@ -29,6 +84,8 @@ pub enum Line {
         label: Label,
         version: Version,
     },
+    /// The last deliveries are shown.
+    ShowRecent,
 }
 
 /// Guards, and the actions that are done one after the other where all of them hold.

@@ -5,10 +5,18 @@
 pub enum Verb {
     Pond,
     Ring,
+    Faulty,
     Block,
     Clients,
+    Home,
     Submit,
+    Resubmit,
+    Deliver,
+    Lose,
     Settle,
+    Mute,
+    Unmute,
+    Forge,
     Read,
     Show,
 }

@@ -1,6 +1,6 @@
 -- What is known of the lines stays so with one more.
-use Rattle.std.proofs.Common.{◌≡◌, ◌<◌, ◌≤◌, ◌+◌, ◌*◌, ◌∷◌, [], ◌++◌, ℕ, List, Bool, true, false, cond, ◌&&◌, nat_le, length, arith, refl, sym, ◌∙◌, ap, subst, Ok, Err}
-use Rattle.std.specs.List.{filter, sum_by}
+use Rattle.std.proofs.Common.{◌≡◌, ◌<◌, ◌≤◌, ◌*◌, ◌∷◌, [], ◌++◌, ℕ, List, Bool, true, false, ◌&&◌, nat_le, slice_index, length, arith, refl, sym, ◌∙◌, ap, subst, Ok, Err}
+use Rattle.std.specs.List.{sum_by}
 use Rattle.std.proofs.lemmas.Bool.Decides.{nat_tests}
 use Rattle.std.proofs.lemmas.List.{length-map}
 use Rattle.std.proofs.lemmas.List.Concat.{flat_map-cons}
@@ -8,9 +8,9 @@ use Rattle.std.proofs.lemmas.List.Sums.{sum_by-cons}
 use Rattle.script_terms.specs.declared.cause.Cause.TheVariants.{Full}
 use Rattle.script_terms.specs.declared.item.Item.{Item}
 use Rattle.script_terms.specs.declared.item.Item.TheVariants.{Declared, Event}
-use Rattle.script_terms.specs.declared.declaration.Declaration.TheVariants.{Pond, Ring, Block, Clients}
+use Rattle.script_terms.specs.declared.declaration.Declaration.TheVariants.{Pond, Ring, Faulty, Block, Clients, Home}
 use Rattle.script_terms.specs.declared.item.Placed.{Placed}
-use Rattle.script_grammar.specs.Known.{Known, known, rank, is_request, is_event}
+use Rattle.script_grammar.specs.Known.{Known, known, rank}
 use Rattle.script_grammar.specs.Load.{Sent, sent_in, sent, load, is_borne, blocks, weighed, reach}
 use Rattle.script_grammar.specs.Script.{items}
 use Rattle.script_grammar.specs.Steps.{in_order, in_range, has_room}
@@ -19,15 +19,7 @@ use Rattle.script_checks.specs.Loads.{Loaded, Stands, entry_of}
 use Rattle.script_checks.specs.Next.{next}
 use Rattle.script_text.specs.Lines.{Fits, placed_after}
 use Rattle.script_text.specs.Stands.{StandsFor}
-
-counted_one : (b : Bool) (x : Item) (xs : List Item) → length (cond b (x ∷ xs) xs) ≡ cond b (length xs + 1) (length xs)
-counted_one true x xs = omega arith
-counted_one false x xs = refl
-
--- what is known behind one more line
-known_next : (item : Item) (earlier : List Item) → next item (known earlier) ≡ known (item ∷ earlier)
-known_next item earlier =
-    rw (counted_one (is_request item) item (filter is_request earlier), counted_one (is_event item) item (filter is_event earlier)) refl
+use Rattle.script_text.proofs.Counting.{known_next, few_submits}
 
 order_rises : (last r : ℕ) → in_order last r ≡ true → last ≤ r
 order_rises last r e = grind (arith, nat_tests)
@@ -36,7 +28,9 @@ block_stays : (item : Item) (k : Known) (loaded : Loaded) (before : List Sent) �
 block_stays (Event line) k loaded before order quiet st = st
 block_stays (Declared Pond) k loaded before order quiet st = st
 block_stays (Declared (Ring f)) k loaded before order quiet st = st
+block_stays (Declared (Faulty member)) k loaded before order quiet st = st
 block_stays (Declared (Clients n)) k loaded before order quiet st = st
+block_stays (Declared (Home client member)) k loaded before order quiet st = st
 block_stays (Declared (Block b)) k loaded before order quiet st =
     let none : before ≡ [] = quiet (omega (arith, order_rises k.last 4 order)) in
     record { entries = st.entries; blocks = st.blocks ∙ ap (load k.block) none ∙ ap (load b) (sym none) }
@@ -49,8 +43,8 @@ loads_next k old new lines item s f add =
     rw (flat_map-cons sent_in item (items lines)) (add (sent (items lines)) (block_stays item k old (sent (items lines)) order s.quiet s.loads))
 
 -- what is known of the lines with one more
-pub known_is : (k : Known) (loaded : Loaded) (lines : List Placed) (item : Item) → StandsFor k loaded lines → next item k ≡ known (item ∷ items lines)
-known_is k loaded lines item s = ap (next item) s.known ∙ known_next item (items lines)
+pub known_is : (k : Known) (loaded : Loaded) (lines : List Placed) (item : Item) → StandsFor k loaded lines → Fits (items lines) item → next item k ≡ known (item ∷ items lines)
+known_is k loaded lines item s f = ap (next item) s.known ∙ known_next item (items lines) (subst (λ (x : Known). x.clients ≤ 16) s.known s.clients) f.range
 
 full_by : (a b : Bool) (number : ℕ) (lines : List Placed) (item : Item) → b ≡ false → (where_holds (a && b) Full item >>= λ same. Ok (record { line = number; item = same } ∷ lines)) ≡ Err Full
 full_by true b number lines item e = rw e refl
@@ -63,17 +57,17 @@ first_holds : (n m : ℕ) (b : Bool) → nat_le n m && b ≡ true → n ≤ m
 first_holds n m b e = grind (arith, nat_tests)
 
 -- a limit that is passed
-pub passes : (k : Known) (loaded : Loaded) (lines : List Placed) (number : ℕ) (item : Item) → StandsFor k loaded lines → is_borne (next item k).block (sent (item ∷ items lines)) ≡ false
+pub passes : (k : Known) (loaded : Loaded) (lines : List Placed) (number : ℕ) (item : Item) → StandsFor k loaded lines → Fits (items lines) item → is_borne (next item k).block (sent (item ∷ items lines)) ≡ false
     → placed_after number lines item ≡ Err Full
-passes k loaded lines number item s e =
-    let b : is_borne (known (item ∷ items lines)).block (sent (item ∷ items lines)) ≡ false = ap (λ (x : Known). is_borne x.block (sent (item ∷ items lines))) (sym (known_is k loaded lines item s)) ∙ e in
+passes k loaded lines number item s f e =
+    let b : is_borne (known (item ∷ items lines)).block (sent (item ∷ items lines)) ≡ false = ap (λ (x : Known). is_borne x.block (sent (item ∷ items lines))) (sym (known_is k loaded lines item s f)) ∙ e in
     full_by (has_room (known (item ∷ items lines))) _ number lines item b
 
-pub fills : (k : Known) (loaded : Loaded) (lines : List Placed) (number : ℕ) (item : Item) → StandsFor k loaded lines → has_room (next item k) ≡ true → is_borne (next item k).block (sent (item ∷ items lines)) ≡ true
+pub fills : (k : Known) (loaded : Loaded) (lines : List Placed) (number : ℕ) (item : Item) → StandsFor k loaded lines → Fits (items lines) item → has_room (next item k) ≡ true → is_borne (next item k).block (sent (item ∷ items lines)) ≡ true
     → placed_after number lines item ≡ Ok (record { line = number; item = item } ∷ lines)
-fills k loaded lines number item s r e =
-    let b : is_borne (known (item ∷ items lines)).block (sent (item ∷ items lines)) ≡ true = ap (λ (x : Known). is_borne x.block (sent (item ∷ items lines))) (sym (known_is k loaded lines item s)) ∙ e in
-    let h : has_room (known (item ∷ items lines)) ≡ true = ap has_room (sym (known_is k loaded lines item s)) ∙ r in
+fills k loaded lines number item s f r e =
+    let b : is_borne (known (item ∷ items lines)).block (sent (item ∷ items lines)) ≡ true = ap (λ (x : Known). is_borne x.block (sent (item ∷ items lines))) (sym (known_is k loaded lines item s f)) ∙ e in
+    let h : has_room (known (item ∷ items lines)) ≡ true = ap has_room (sym (known_is k loaded lines item s f)) ∙ r in
     full_not (has_room (known (item ∷ items lines))) _ number lines item h b
 
 quiet_next : (item : Item) (k : Known) (before : List Sent) → in_order k.last (rank item) ≡ true → (k.last < 9 → before ≡ []) → rank item < 9 → sent_in item ++ before ≡ []
@@ -84,8 +78,19 @@ block_range : (item : Item) (k : Known) (x : Known) → in_range x item ≡ true
 block_range (Event line) k x r low high = (low, high)
 block_range (Declared Pond) k x r low high = (low, high)
 block_range (Declared (Ring f)) k x r low high = (low, high)
+block_range (Declared (Faulty member)) k x r low high = (low, high)
 block_range (Declared (Clients n)) k x r low high = (low, high)
+block_range (Declared (Home client member)) k x r low high = (low, high)
 block_range (Declared (Block b)) k x r low high = grind (arith, nat_tests)
+
+clients_range : (item : Item) (k : Known) (x : Known) → in_range x item ≡ true → k.clients ≤ 16 → (next item k).clients ≤ 16
+clients_range (Event line) k x r high = high
+clients_range (Declared Pond) k x r high = high
+clients_range (Declared (Ring f)) k x r high = high
+clients_range (Declared (Faulty member)) k x r high = high
+clients_range (Declared (Block b)) k x r high = high
+clients_range (Declared (Home client member)) k x r high = high
+clients_range (Declared (Clients n)) k x r high = grind (arith, nat_tests)
 
 -- all that is known, with one more line
 pub stands_next : (k : Known) (old new : Loaded) (lines : List Placed) (number : ℕ) (item : Item) → StandsFor k old lines → Fits (items lines) item
@@ -95,9 +100,10 @@ stands_next k old new lines number item s f loads room borne =
     let order : in_order k.last (rank item) ≡ true = ap (λ (x : Known). in_order x.last (rank item)) s.known ∙ f.order in
     let range = block_range item k (known (items lines)) f.range s.least s.most in
     record {
-      known = known_is k old lines item s;
+      known = known_is k old lines item s f;
       least = range.0;
       most = range.1;
+      clients = clients_range item k (known (items lines)) f.range s.clients;
       loads = loads;
       room = room;
       borne = borne;
@@ -113,6 +119,13 @@ pub few_entries : (loaded : Loaded) (block : ℕ) (before : List Sent) → Stand
 few_entries loaded block before st b =
     let l : load block before ≤ 8192 = first_holds _ _ _ b in
     omega (arith, least_sum (λ s. blocks block (weighed (reach before) s)) before (λ s. omega arith), l, ap length st.entries, length-map before entry_of)
+
+-- what the taking in of a line requires
+pub range_is : (k : Known) (loaded : Loaded) (lines : List Placed) (item : Item) → StandsFor k loaded lines → Fits (items lines) item → in_range k item ≡ true
+range_is k loaded lines item s f = ap (λ (x : Known). in_range x item) s.known ∙ f.range
+
+pub few_are_sent : (k : Known) (loaded : Loaded) (lines : List Placed) (client : ℕ) → StandsFor k loaded lines → slice_index k.submits client ≤ k.requests
+few_are_sent k loaded lines client s = subst (λ (x : Known). slice_index x.submits client ≤ x.requests) (sym s.known) (few_submits (items lines) client)
 
 -- the last step, in the terms of the code: what is known before and after, the block, and the two answers
 pub record Counted (k after : Known) (old new : Loaded) (lines : List Placed) (number block : ℕ) (item : Item) (room borne : Bool) : Type 0 where
@@ -145,7 +158,7 @@ pub gives : (k after : Known) (old new : Loaded) (lines more : List Placed) (num
     → more ≡ record { line = number; item = item } ∷ lines → placed_after number lines item ≡ Ok more
 gives k after old new lines more number block item room borne c m =
     let l = loaded_so k after old new lines number block item room borne c in
-    fills k old lines number item c.stands l.1 l.2 ∙ ap Ok (sym m)
+    fills k old lines number item c.stands c.fits l.1 l.2 ∙ ap Ok (sym m)
 
 -- the last step where the load is passed
 pub overfull : (k after : Known) (old new : Loaded) (lines : List Placed) (number block : ℕ) (item : Item) (borne : Bool) → StandsFor k old lines → Fits (items lines) item → after ≡ next item k → block ≡ after.block
@@ -156,4 +169,4 @@ overfull k after old new lines number block item borne s f n b add is e =
     let adds = subst (λ (x : ℕ). (before : List Sent) → Stands old x before → Stands new x (sent_in item ++ before)) same add in
     let loads = loads_next k old new lines item s f adds in
     let here = subst (λ (x : ℕ). Stands new x (sent (item ∷ items lines))) (sym same) loads in
-    passes k old lines number item s (ap (λ x. is_borne x (sent (item ∷ items lines))) (sym same) ∙ sym (is (sent (item ∷ items lines)) here) ∙ e)
+    passes k old lines number item s f (ap (λ x. is_borne x (sent (item ∷ items lines))) (sym same) ∙ sym (is (sent (item ∷ items lines)) here) ∙ e)

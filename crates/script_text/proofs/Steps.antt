@@ -13,8 +13,9 @@ use Rattle.script_grammar.specs.Results.{◌>>=◌, or_cause, where_holds}
 use Rattle.script_grammar.specs.Classes.{number_at, label_at, party_at, name_at, data_at}
 use Rattle.script_grammar.specs.Forms.{Slot, Fixed, Number, Label, PartyWord, Name, Data, Makes, Form, forms, made, has_fixed, said_by, submit_of, said, verb_of}
 use Rattle.script_grammar.specs.Update.{groups_of, clauses_of}
-use Rattle.script_grammar.specs.Known.{known, rank}
+use Rattle.script_grammar.specs.Known.{Known, known, rank}
 use Rattle.script_grammar.specs.Steps.{rank_of, in_order, in_range, in_size, item_of}
+use Rattle.script_checks.specs.Next.{checked}
 use Rattle.script_text.specs.Lines.{Fits}
 
 pub bind_ok : {A B : Type 0} (r : Result A Cause) (f : A → Result B Cause) (y : B) → (r >>= f) ≡ Ok y → (x : A) × (r ≡ Ok x) × (f x ≡ Ok y)
@@ -93,12 +94,31 @@ submit_says (client ∷ label ∷ words) item e =
 said_rank : (verb : Verb) (words : List (List ℕ)) (item : Item) → said verb words ≡ Ok item → rank item ≡ rank_of verb
 said_rank verbs.Pond words item e = by_form (λ x. rank x ≡ 1) (forms verbs.Pond) words item (refl, tt) e
 said_rank verbs.Ring words item e = by_form (λ x. rank x ≡ 2) (forms verbs.Ring) words item (λ _. refl, tt) e
+said_rank verbs.Faulty words item e = by_form (λ x. rank x ≡ 3) (forms verbs.Faulty) words item (λ _. refl, tt) e
 said_rank verbs.Block words item e = by_form (λ x. rank x ≡ 4) (forms verbs.Block) words item (λ _. refl, tt) e
 said_rank verbs.Clients words item e = by_form (λ x. rank x ≡ 6) (forms verbs.Clients) words item (λ _. refl, tt) e
+said_rank verbs.Home words item e = by_form (λ x. rank x ≡ 8) (forms verbs.Home) words item (λ _ _. refl, tt) e
 said_rank verbs.Submit words item e = ap rank (sym (submit_says words item e).item_is)
+said_rank verbs.Resubmit words item e = by_form (λ x. rank x ≡ 9) (forms verbs.Resubmit) words item (λ _ _. refl, tt) e
+said_rank verbs.Deliver words item e = by_form (λ x. rank x ≡ 9) (forms verbs.Deliver) words item (λ _ _ _. refl, tt) e
+said_rank verbs.Lose words item e = by_form (λ x. rank x ≡ 9) (forms verbs.Lose) words item (λ _ _ _. refl, tt) e
 said_rank verbs.Settle words item e = by_form (λ x. rank x ≡ 9) (forms verbs.Settle) words item (refl, tt) e
+said_rank verbs.Mute words item e = by_form (λ x. rank x ≡ 9) (forms verbs.Mute) words item (λ _. refl, tt) e
+said_rank verbs.Unmute words item e = by_form (λ x. rank x ≡ 9) (forms verbs.Unmute) words item (λ _. refl, tt) e
+said_rank verbs.Forge words item e =
+    by_form (λ x. rank x ≡ 9) (forms verbs.Forge) words item (λ _ _ _ _ _. refl, (λ _ _ _ _ _. refl, (λ _ _ _ _ _. refl, (λ _ _ _. refl, tt)))) e
 said_rank verbs.Read words item e = by_form (λ x. rank x ≡ 9) (forms verbs.Read) words item (λ _ _. refl, tt) e
-said_rank verbs.Show words item e = by_form (λ x. rank x ≡ 9) (forms verbs.Show) words item (λ _. refl, (λ _ _ _. refl, tt)) e
+said_rank verbs.Show words item e = by_form (λ x. rank x ≡ 9) (forms verbs.Show) words item (λ _. refl, (λ _ _ _. refl, (refl, tt))) e
+
+-- what a verb's words say behind earlier lines, where its lines may stand there
+pub says_by : (earlier : List Item) (word : List ℕ) (words : List (List ℕ)) (verb : Verb) (k : Known) → verb_of word ≡ Some verb → in_order (known earlier).last (rank_of verb) ≡ true → k ≡ known earlier
+    → checked k (said verb words) ≡ item_of earlier word words
+says_by earlier word words verb k e o same =
+    let sized = λ (x : Item). where_holds (in_size x) causes.Size x in
+    let ranged = λ (x : Item). where_holds (in_range (known earlier) x) causes.Range x >>= sized in
+    let spoken = λ (v : Verb). said v words >>= ranged in
+    let ordered = λ (v : Verb). where_holds (in_order (known earlier).last (rank_of v)) causes.Order v >>= spoken in
+    ap (λ x. checked x (said verb words)) same ∙ ap (λ t. where_holds t causes.Order verb >>= spoken) (sym o) ∙ ap (λ v. or_cause causes.Verb v >>= ordered) (sym e)
 
 -- an item that words give behind earlier lines: what a verb's words say, and it passed each step
 pub record Passed (earlier : List Item) (words : List (List ℕ)) (item : Item) : Type 0 where

@@ -1,14 +1,16 @@
 -- The lines of a text, one after another.
-use Rattle.std.proofs.Common.{◌≡◌, ◌+◌, ◌<◌, ◌≤◌, ◌∷◌, [], ◌==◌, ℕ, suc, List, Bool, true, false, length, take, drop, cond, not, arith, refl, sym, ◌∙◌, ap, Result, Ok}
+use Rattle.std.proofs.Common.{◌≡◌, ◌+◌, ◌<◌, ◌≤◌, ◌∷◌, [], ◌==◌, ℕ, suc, List, Bool, true, false, nat_le, length, take, drop, cond, not, arith, refl, sym, ◌∙◌, ap, Result, Ok}
 use Rattle.std.specs.List.{before_first, after_first, position_or_len, onto_first}
 use Rattle.std.proofs.lemmas.Grind.{common_steps}
+use Rattle.script_terms.specs.declared.cause.Cause.TheVariants.{Order}
 use Rattle.script_terms.specs.declared.fault.LineFault.{LineFault}
 use Rattle.script_terms.specs.declared.fault.LineFault.TheVariants.{Refused, Memory}
 use Rattle.script_terms.specs.declared.item.Placed.{Placed}
 use Rattle.script_grammar.specs.Words.{lines_of}
-use Rattle.script_grammar.specs.Results.{Fails}
+use Rattle.script_grammar.specs.Results.{Fails, where_holds}
+use Rattle.script_grammar.specs.Known.{known}
 use Rattle.script_terms.specs.declared.script.Script.{Script}
-use Rattle.script_grammar.specs.Script.{Refusal, line_after, at_line, script_from}
+use Rattle.script_grammar.specs.Script.{Refusal, items, line_after, at_line, script_by, script_from}
 use Rattle.script_text.specs.Refusal.{refusal_of, IsFault}
 
 -- a byte in front of a line that was cut
@@ -47,6 +49,17 @@ pub stops : (number : ℕ) (earlier : List Placed) (line : List ℕ) (lines : Li
     → script_from number earlier (line ∷ lines) ≡ whole → IsFault (refusal_of number fault) whole
 stops number earlier line lines whole Memory e h = tt
 stops number earlier line lines whole (Refused cause) e h = sym h ∙ ap (λ r. at_line number r (λ more. script_from (number + 1) more lines)) e
+
+no_bytes : (text : List ℕ) → length text ≡ 0 → text ≡ []
+no_bytes [] h = refl
+no_bytes (byte ∷ text) h = absurd (omega arith)
+
+-- a script by its end
+pub ends : (number : ℕ) (earlier : List Placed) (rest : List ℕ) (script : Script) (whole : Result Script Refusal) → length rest ≡ 0 → nat_le 2 (known (items earlier)).last ≡ true → script ≡ script_by earlier
+    → script_from number earlier (lines_of rest) ≡ whole → whole ≡ Ok script
+ends number earlier rest script whole none heads is e =
+    sym e ∙ ap (λ x. script_from number earlier (lines_of x)) (no_bytes rest none)
+    ∙ ap (λ t. at_line number (where_holds t Order earlier) (λ all. Ok (script_by all))) heads ∙ ap Ok (sym is)
 
 -- what follows a line is shorter
 pub shorter : (rest after : List ℕ) → 0 < length rest → after ≡ after_first (λ c. c == 10) rest → length after + 1 ≤ length rest

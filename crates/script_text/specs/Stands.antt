@@ -12,6 +12,7 @@ pub record StandsFor (k : Known) (loaded : Loaded) (lines : List Placed) : Type 
   pub known : k ≡ known (items lines)
   pub least : 64 ≤ k.block
   pub most : k.block ≤ 8192
+  pub clients : k.clients ≤ 16
   pub loads : Stands loaded k.block (sent (items lines))
   pub room : has_room k ≡ true
   pub borne : is_borne k.block (sent (items lines)) ≡ true

@@ -7,7 +7,8 @@ ghost use Rattle.script_grammar.specs.Results.{Gives};
 ghost use Rattle.script_checks.specs.Next.{checked};
 ghost use Rattle.script_text.specs.Texts.{texts};
 
-use pond_base::limits::{LEAST_BLOCK, MOST_BLOCK, MOST_CLIENTS};
+use pond_base::limits::{LEAST_BLOCK, MOST_BLOCK, MOST_CLIENTS, MOST_FAULTY};
+use script_checks::Known;
 use script_terms::{Declaration, Item, LineFault, refused};
 use script_words::number;
 
@@ -39,10 +40,25 @@ pub(crate) fn ring(words: &[&[u8]]) -> Result<Item, LineFault>
         return Err(refused::WORDS);
     };
     let f = number(f)?;
-    if f > 0 {
+    if f > u32::from(MOST_FAULTY) {
         return Err(refused::RANGE);
     }
     Ok(Item::Declared(Declaration::Ring { f: f as u8 }))
+}
+
+/// `faulty I`
+pub(crate) fn faulty(known: &Known, words: &[&[u8]]) -> Result<Item, LineFault>
+    ensures { Gives (λ x. x) result (checked known.now (said verbs.Faulty (texts words.now))) }
+{
+    let [member] = words else {
+        return Err(refused::WORDS);
+    };
+    let member = number(member)?;
+    let member = known.member(member)?;
+    if known.is_faulty(member) {
+        return Err(refused::RANGE);
+    }
+    Ok(Item::Declared(Declaration::Faulty { member }))
 }
 
 /// `block B`
@@ -71,4 +87,30 @@ pub(crate) fn clients(words: &[&[u8]]) -> Result<Item, LineFault>
         return Err(refused::RANGE);
     }
     Ok(Item::Declared(Declaration::Clients { count: count as u8 }))
+}
+
+/// `home C member I`
+pub(crate) fn home(known: &Known, words: &[&[u8]]) -> Result<Item, LineFault>
+    ensures { Gives (λ x. x) result (checked known.now (said verbs.Home (texts words.now))) }
+{
+    match words {
+        [client, what, member] => home_at(known, client, what, member),
+        _ => Err(refused::WORDS),
+    }
+}
+
+fn home_at(known: &Known, client: &[u8], what: &[u8], member: &[u8]) -> Result<Item, LineFault>
+    ensures { Gives (λ x. x) result (checked known.now (said verbs.Home (client.now ∷ what.now ∷ member.now ∷ []))) }
+{
+    if what != b"member".as_slice() {
+        return Err(refused::WORDS);
+    }
+    let client = number(client)?;
+    let member = number(member)?;
+    let client = known.client(client)?;
+    let member = known.member(member)?;
+    if known.has_home(client) {
+        return Err(refused::RANGE);
+    }
+    Ok(Item::Declared(Declaration::Home { client, member }))
 }

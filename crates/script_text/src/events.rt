@@ -1,4 +1,4 @@
-// The forms of events but submits.
+// The forms of events that settle, read, show and send again.
 ghost use Rattle.std.specs.Prelude.{◌≡◌, ◌∷◌, []};
 ghost use Rattle.script_terms.specs.declared.verb.Verb.TheVariants as verbs;
 ghost use Rattle.script_grammar.specs.Forms.{said};
@@ -23,6 +23,20 @@ pub(crate) fn settle(words: &[&[u8]]) -> Result<Item, LineFault>
     }
 }
 
+/// `resubmit C N`
+pub(crate) fn resubmit(known: &Known, words: &[&[u8]]) -> Result<Item, LineFault>
+    ensures { Gives (λ x. x) result (checked known.now (said verbs.Resubmit (texts words.now))) }
+{
+    let [sender, request] = words else {
+        return Err(refused::WORDS);
+    };
+    let sender = number(sender)?;
+    let request = number(request)?;
+    let client = known.client(sender)?;
+    let number = known.request(client, request)?;
+    Ok(Item::Event(Line::Resubmit { client, number }))
+}
+
 /// `read C LABEL`
 pub(crate) fn read(known: &Known, words: &[&[u8]]) -> Result<Item, LineFault>
     ensures { Gives (λ x. x) result (checked known.now (said verbs.Read (texts words.now))) }
@@ -36,15 +50,25 @@ pub(crate) fn read(known: &Known, words: &[&[u8]]) -> Result<Item, LineFault>
     Ok(Item::Event(Line::Read { client, label }))
 }
 
-/// `show member I`, `show version I LABEL V`
+/// `show member I`, `show version I LABEL V`, `show recent`
 pub(crate) fn show(known: &Known, words: &[&[u8]]) -> Result<Item, LineFault>
     ensures { Gives (λ x. x) result (checked known.now (said verbs.Show (texts words.now))) }
 {
     match words {
+        [what] => show_recent(what),
         [what, member] => show_member(known, what, member),
         [what, member, object, version] => show_version(known, what, member, object, version),
         _ => Err(refused::WORDS),
     }
+}
+
+fn show_recent(what: &[u8]) -> Result<Item, LineFault>
+    ensures { (k : spec.Known) → Gives (λ x. x) result (checked k (said verbs.Show (what.now ∷ []))) }
+{
+    if what != b"recent".as_slice() {
+        return Err(refused::WORDS);
+    }
+    Ok(Item::Event(Line::ShowRecent))
 }
 
 fn show_member(known: &Known, what: &[u8], member: &[u8]) -> Result<Item, LineFault>

@@ -8,9 +8,12 @@
 #![tactic(auto)]
 
 mod declarations;
+mod deliveries;
 mod events;
 mod fault;
+mod forgeries;
 mod parsing;
+mod skipping;
 mod state;
 mod submits;
 #[cfg(test)]

@@ -4,6 +4,7 @@ ghost use Rattle.script_grammar.specs.Script.{script_of};
 ghost use Rattle.script_text.specs.Refusal.{Reads};
 
 use crate::ParseFault;
+use crate::skipping::is_skipped;
 use crate::state::State;
 use script_terms::{Script, refused};
 use script_words::split_line;
@@ -20,6 +21,11 @@ pub fn parse(alloc: Global, text: &[u8]) -> Result<Script, ParseFault>
     let mut rest = text;
     while !rest.is_empty() {
         let (line, after) = split_line(rest);
+        if is_skipped(line) {
+            number += 1;
+            rest = after;
+            continue;
+        }
         match state.after(alloc, number, line) {
             Ok(next) => state = next,
             Err(fault) => return Err(ParseFault::at(number, fault)),

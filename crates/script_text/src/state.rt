@@ -43,7 +43,7 @@ impl State {
         ensures { result ≡ [] }
     {
         State {
-            known: Known::new(),
+            known: Known::new(alloc),
             load: Load::new(alloc),
             placed: Vec::new(alloc),
         }
@@ -57,7 +57,7 @@ impl State {
         let homes = known.homes(alloc)?;
         let lines = events(alloc, placed)?;
         Ok(Script {
-            setup: known.setup(alloc),
+            setup: known.into_setup(),
             replicas: Items::new(alloc),
             homes,
             lines,
@@ -130,7 +130,7 @@ impl State {
             mut load,
             mut placed,
         } = self;
-        known.add(&item);
+        known.add(&item)?;
         let block = known.block();
         load.add_item(block, &item)?;
         if !known.has_room() {

@@ -44,14 +44,15 @@ fn verbs_come_second(rt: HostRuntime) -> Result<(), Fail> {
         (b"frog\n".as_slice(), "1 verb"),
         (b"Pond 1\n", "1 verb"),
         (b"pond1\n", "1 verb"),
-        (b"pond 1\nfaulty 0\n", "2 verb"),
+        (b"pond 1\nfaulty0\n", "2 verb"),
         (b"pond 1\nring 0\ncode 1 2\n", "3 verb"),
         (b"pond 1\nring 0\nreplica 0 member 0 cache 1\n", "3 verb"),
-        (b"pond 1\nring 0\nhome 0 member 0\n", "3 verb"),
+        (b"pond 1\nring 0\ncut member 0\n", "3 verb"),
+        (b"pond 1\nring 0\npush 0 a\n", "3 verb"),
         (b"pond 1\nring 0\nreadat 0 a 0 4\n", "3 verb"),
         (b"pond 1\nring 0\nlook 0 a 1\n", "3 verb"),
         (b"pond 1\nring 0\narchive all\n", "3 verb"),
-        (b"pond 1\nring 0\nforge 0 m0 raw 00\n", "3 verb"),
+        (b"pond 1\nring 0\nforges 0 m0 raw 00\n", "3 verb"),
         (b"pond 1\nring 0\nsettle#\n", "3 verb"),
     ];
     for (text, wanted) in cases {
@@ -80,6 +81,10 @@ fn order_comes_third(rt: HostRuntime) -> Result<(), Fail> {
         (b"pond 1\nring 0\nclients 2\nclients 2\n", "4 order"),
         (b"pond 1\nring 0\nsettle\nclients 2 2\n", "4 order"),
         (b"# x\n\n  # y\npond 1\n", "5 order"),
+        (b"pond 1\nfaulty 0\n", "2 order"),
+        (b"pond 1\nring 1\nblock 64\nfaulty 0\n", "4 order"),
+        (b"pond 1\nring 1\nhome 0 member 0\nclients 2\n", "4 order"),
+        (b"pond 1\nring 1\nmute m0\nhome 0 member 0\n", "4 order"),
         (b"pond 1\nring 0\nblock 64\nclients 2\nsettle\n", "1 events"),
     ];
     for (text, wanted) in cases {
@@ -105,12 +110,24 @@ fn words_come_fourth(rt: HostRuntime) -> Result<(), Fail> {
         (b"pond 1\nring 0\nread 0\n", "3 words"),
         (b"pond 1\nring 0\nread A a b\n", "3 words"),
         (b"pond 1\nring 0\nshow\n", "3 words"),
-        (b"pond 1\nring 0\nshow recent\n", "3 words"),
+        (b"pond 1\nring 0\nshow recents\n", "3 words"),
+        (b"pond 1\nring 0\nshow recent 0\n", "3 words"),
         (b"pond 1\nring 0\nshow client A\n", "3 words"),
         (b"pond 1\nring 0\nshow member\n", "3 words"),
         (b"pond 1\nring 0\nshow member 0 0\n", "3 words"),
         (b"pond 1\nring 0\nshow version 0 a\n", "3 words"),
         (b"pond 1\nring 0\nshow versions x A y\n", "3 words"),
+        (b"pond 1\nring 0\nfaulty\n", "3 words"),
+        (b"pond 1\nring 0\nhome 0 replica 0\n", "3 words"),
+        (b"pond 1\nring 0\nhome x at y\n", "3 words"),
+        (b"pond 1\nring 0\nresubmit 0\n", "3 words"),
+        (b"pond 1\nring 0\nlose x y\n", "3 words"),
+        (b"pond 1\nring 0\nmute x y\n", "3 words"),
+        (b"pond 1\nring 0\nforge x y heart A 0 z\n", "3 words"),
+        (b"pond 1\nring 0\nforge x y sealed A 0 z\n", "3 words"),
+        (b"pond 1\nring 0\nforge x y order z\n", "3 words"),
+        (b"pond 1\nring 0\nforge x y raw 0 0 1\n", "3 words"),
+        (b"pond 1\nring 0\nforge x y raw\n", "3 words"),
     ];
     for (text, wanted) in cases {
         assert_eq!(rt; told(alloc, text)?.as_str(), wanted);
@@ -196,6 +213,16 @@ fn classes_come_fifth(rt: HostRuntime) -> Result<(), Fail> {
             "3 word",
         ),
         (b"pond 1\nring 0\nsubmit 0 a splice 0 0 -\n", "3 word"),
+        (b"pond 1\nring 0\nfaulty m0\n", "3 word"),
+        (b"pond 1\nring 0\nhome 9 member x\n", "3 word"),
+        (b"pond 1\nring 0\nresubmit 9 x\n", "3 word"),
+        (b"pond 1\nring 0\ndeliver m9 r0 0\n", "3 word"),
+        (b"pond 1\nring 0\nlose m9 m0 x\n", "3 word"),
+        (b"pond 1\nring 0\nmute M0\n", "3 word"),
+        (b"pond 1\nring 0\nunmute c01\n", "3 word"),
+        (b"pond 1\nring 0\nmute m4294967296\n", "3 word"),
+        (b"pond 1\nring 0\nforge 0 m0 commit 0 0 x\n", "3 word"),
+        (b"pond 1\nring 0\nforge 0 m9 raw 000\n", "3 word"),
     ];
     for (text, wanted) in cases {
         assert_eq!(rt; told(alloc, text)?.as_str(), wanted);
@@ -208,7 +235,7 @@ fn classes_come_fifth(rt: HostRuntime) -> Result<(), Fail> {
 fn ranges_come_sixth(rt: HostRuntime) -> Result<(), Fail> {
     let alloc = rt.alloc();
     let cases = [
-        (b"pond 1\nring 1\n".as_slice(), "2 range"),
+        (b"pond 1\nring 4\n".as_slice(), "2 range"),
         (b"pond 1\nring 4294967295\n", "2 range"),
         (b"pond 1\nring 0\nblock 63\n", "3 range"),
         (b"pond 1\nring 0\nblock 8193\n", "3 range"),
@@ -227,6 +254,62 @@ fn ranges_come_sixth(rt: HostRuntime) -> Result<(), Fail> {
         (
             b"pond 1\nring 0\nsubmit 0 a append 61 or append 62 + delete 5 0\n",
             "3 range",
+        ),
+    ];
+    for (text, wanted) in cases {
+        assert_eq!(rt; told(alloc, text)?.as_str(), wanted);
+    }
+    Ok(())
+}
+
+// A member, a party, a message, a slot or a request that is not declared, or not sent, is out of range.
+#[test]
+fn ranges_of_rings(rt: HostRuntime) -> Result<(), Fail> {
+    let alloc = rt.alloc();
+    let cases = [
+        (b"pond 1\nring 1\nfaulty 4\n".as_slice(), "3 range"),
+        (b"pond 1\nring 1\nfaulty 3\nfaulty 3\n", "4 range"),
+        (b"pond 1\nring 1\nhome 1 member 0\n", "3 range"),
+        (b"pond 1\nring 1\nhome 0 member 4\n", "3 range"),
+        (
+            b"pond 1\nring 1\nclients 2\nhome 1 member 0\nhome 0 member 0\nhome 1 member 0\n",
+            "6 range",
+        ),
+        (b"pond 1\nring 1\nshow member 4\n", "3 range"),
+        (b"pond 1\nring 1\nresubmit 0 1\n", "3 range"),
+        (
+            b"pond 1\nring 1\nsubmit 0 a append 61\nresubmit 0 1\nresubmit 0 2\n",
+            "5 range",
+        ),
+        (
+            b"pond 1\nring 1\nclients 2\nsubmit 0 a append 61\nresubmit 1 1\n",
+            "5 range",
+        ),
+        (b"pond 1\nring 1\ndeliver m4 m0 1\n", "3 range"),
+        (b"pond 1\nring 1\ndeliver m0 c1 1\n", "3 range"),
+        (b"pond 1\nring 1\ndeliver m0 m0 0\n", "3 range"),
+        (b"pond 1\nring 1\nlose c1 m0 1\n", "3 range"),
+        (b"pond 1\nring 1\nlose m0 m3 0\n", "3 range"),
+        (b"pond 1\nring 1\nmute m4\n", "3 range"),
+        (b"pond 1\nring 1\nunmute c1\n", "3 range"),
+        (b"pond 1\nring 1\nforge 0 m0 raw 00\n", "3 range"),
+        (b"pond 1\nring 1\nfaulty 1\nforge 0 m0 raw 00\n", "4 range"),
+        (b"pond 1\nring 1\nfaulty 1\nforge 1 m4 raw 00\n", "4 range"),
+        (
+            b"pond 1\nring 1\nfaulty 1\nforge 1 m0 order 1 0 1\n",
+            "4 range",
+        ),
+        (
+            b"pond 1\nring 1\nfaulty 1\nsubmit 0 a append 61\nforge 1 m0 commit 0 0 1\n",
+            "5 range",
+        ),
+        (
+            b"pond 1\nring 1\nfaulty 1\nsubmit 0 a append 61\nforge 1 m0 order 65537 0 1\n",
+            "5 range",
+        ),
+        (
+            b"pond 1\nring 1\nfaulty 1\nsubmit 0 a append 61\nforge 2 m0 prepare 1 0 1\n",
+            "5 range",
         ),
     ];
     for (text, wanted) in cases {
@@ -311,6 +394,18 @@ fn scripts_within_all_limits(rt: HostRuntime) -> Result<(), Fail> {
         (
             b"pond 1\nring 0\nshow member 0\nshow version 0 a 1\nsettle",
             "3 events",
+        ),
+        (
+            b"pond 1\nring 3\nfaulty 0\nfaulty 9\nfaulty 4\nhome 0 member 9\nshow member 9\n",
+            "1 events",
+        ),
+        (
+            b"pond 1\nring 1\nclients 2\nsubmit 1 a append 61\nresubmit 1 1\nlose m0 m3 4294967295\nmute c1\nunmute m3\ndeliver c1 m0 1\nshow recent\n",
+            "7 events",
+        ),
+        (
+            b"pond 1\nring 1\nfaulty 3\nsubmit 0 a append 61\nforge 3 m0 order 1 0 1\nforge 3 m3 prepare 65536 0 1\nforge 3 c0 commit 1 0 1\nforge 3 m1 raw 12\n",
+            "5 events",
         ),
     ];
     for (text, wanted) in cases {
@@ -418,6 +513,21 @@ fn counted_limits(rt: HostRuntime) -> Result<(), Fail> {
         let text = repeated(alloc, head, line, count)?;
         assert_eq!(rt; told(alloc, &text)?.as_str(), wanted);
     }
+    let sent = b"pond 1\nring 1\nfaulty 3\nsubmit 0 a append 61\n".as_slice();
+    let again: [(&[u8], u32, &str); 4] = [
+        (b"resubmit 0 1\n", 1_023, "1024 events"),
+        (b"resubmit 0 1\n", 1_024, "1028 full"),
+        (b"forge 3 m0 prepare 1 0 1\n", 1_024, "1028 full"),
+        (b"forge 3 m0 raw 00\n", 1_024, "1028 full"),
+    ];
+    for (line, count, wanted) in again {
+        let text = repeated(alloc, sent, line, count)?;
+        assert_eq!(rt; told(alloc, &text)?.as_str(), wanted);
+    }
+    let many = b"pond 1\nring 1\nfaulty 0\nfaulty 1\n".as_slice();
+    assert_eq!(rt; told(alloc, many)?.as_str(), "4 full");
+    let none = b"pond 1\nring 0\nfaulty 0\n".as_slice();
+    assert_eq!(rt; told(alloc, none)?.as_str(), "3 full");
     let mut text = repeated(alloc, small, append, 7)?;
     text.extend_from_slice(b"submit 0 a append gen:0:65536 + append 00\n")?;
     assert_eq!(rt; told(alloc, &text)?.as_str(), "11 size");

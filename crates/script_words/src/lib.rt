@@ -9,6 +9,7 @@ mod contents;
 mod labels;
 mod lines;
 mod numbers;
+mod parties;
 #[cfg(test)]
 mod tests;
 
@@ -16,3 +17,4 @@ pub use contents::data;
 pub use labels::label;
 pub use lines::{is_comment, is_plain_line, split_line, words};
 pub use numbers::number;
+pub use parties::{PartyNumber, party};

@@ -35,6 +35,24 @@ fn numbers(rt: HostRuntime) -> Result<(), Fail> {
 }
 
 #[test]
+fn parties(rt: HostRuntime) -> Result<(), Fail> {
+    let cases = [
+        (b"m0".as_slice(), Some(PartyNumber::Member(0))),
+        (b"c15", Some(PartyNumber::Client(15))),
+        (b"m4294967295", Some(PartyNumber::Member(4_294_967_295))),
+        (b"m", None),
+        (b"m00", None),
+        (b"C0", None),
+        (b"0", None),
+        (b"", None),
+    ];
+    for (word, value) in cases {
+        assert_eq!(rt; party(word).ok(), value);
+    }
+    Ok(())
+}
+
+#[test]
 fn labels(rt: HostRuntime) -> Result<(), Fail> {
     match label(b"a_1") {
         Ok(label) => assert_eq!(rt; label.bytes(), b"a_1".as_slice()),

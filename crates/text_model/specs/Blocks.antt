@@ -2,7 +2,10 @@
 -- one, and requests have the newest first too.
 use Rattle.std.specs.Prelude.{ℕ, ◌+◌, ◌-◌, List, [], ◌∷◌, ◌++◌, length, drop, nat_lt, if◌then◌else◌, codes}
 use Rattle.std.specs.Fmt.{decimal}
+use Rattle.std.specs.List.{flat_map}
 use Rattle.hex.specs.Hex.{encode_lower}
+use Rattle.ring_model.specs.Messages.{Party, Member, Client}
+use Rattle.ring_mail.specs.Places.{Place}
 use Rattle.pond_base.specs.declared.numbers.MemberId.{MemberId}
 use Rattle.guarded_update.specs.declared.request.Request.{Request}
 use Rattle.object_model.specs.Folds.{Effect, Makes, Refuses, Repeats, effect, made_by, versions_after}
@@ -72,3 +75,20 @@ shape_text h block (content ∷ older) = shape_line h block content older
 -- versions up to that of a number, which is then the newest, and none where there is none of that number
 abbrev pub up_to : ℕ → List (List ℕ) → List (List ℕ)
 up_to version versions = if nat_lt version (length versions) then drop (length versions - 1 - version) versions else []
+
+-- what is shown of a faulty member
+abbrev pub faulty_text : MemberId → List ℕ
+faulty_text member = codes "member " ++ decimal member.0 ++ codes " faulty" ++ line_feed
+
+-- a party in a delivery's line
+abbrev pub party_text : Party → List ℕ
+party_text (Member number) = codes "m" ++ decimal number
+party_text (Client number) = codes "c" ++ decimal number
+
+-- the line of a delivery, whose place is counted from 1
+abbrev pub delivery_line : Place → List ℕ
+delivery_line place = party_text place.from ++ codes " " ++ party_text place.to ++ codes " " ++ decimal (place.place + 1) ++ line_feed
+
+-- the last deliveries, the oldest first
+abbrev pub recent_text : List Place → List ℕ
+recent_text places = codes "recent " ++ decimal (length places) ++ line_feed ++ flat_map delivery_line places

@@ -6,21 +6,21 @@ use Rattle.guarded_update.specs.Spelling.{request_string}
 use Rattle.object_model.specs.Folds.{Effect, Makes, Refuses, Repeats, effect, made_by, versions_after}
 use Rattle.object_model.specs.Trees.{version_strings}
 use Rattle.script_terms.specs.declared.line.Line.{Line}
-use Rattle.script_terms.specs.declared.line.Line.TheVariants.{Submit, Settle, Read, ShowMember, ShowVersion}
+use Rattle.script_terms.specs.declared.line.Line.TheVariants.{Submit, Deliver, Settle, Read, ShowVersion}
 use Rattle.script_terms.specs.declared.line.LineClause.{LineClause}
 use Rattle.script_terms.specs.declared.line.LineGuard.{LineGuard}
 use Rattle.script_terms.specs.declared.line.LineGuard.TheVariants.{VersionIs, SizeIs, BlockIs}
 use Rattle.script_terms.specs.declared.script.Script.{Script}
 use Rattle.text_model.specs.Requests.{Numbered, next_request, submitted}
+use Rattle.text_model.specs.Executed.{committed_requests}
 use Rattle.tree_format.specs.Strings.{leaf_string, label_string}
 
 -- the labels that stand in an event
 abbrev pub labels_in : Line → List (List ℕ)
 labels_in (Submit client label clauses) = label ∷ []
-labels_in Settle = []
 labels_in (Read client label) = label ∷ []
-labels_in (ShowMember member) = []
 labels_in (ShowVersion member label version) = label ∷ []
+labels_in line = []
 
 -- the label strings of an event
 abbrev pub label_strings : Numbered → List (List ℕ)
@@ -54,17 +54,22 @@ abbrev pub executed_strings : (List ℕ → List ℕ) → ℕ → List Request �
 executed_strings h block [] = []
 executed_strings h block (request ∷ earlier) = executed_strings h block earlier ++ made_strings h block request earlier
 
--- what an event names after earlier lines: a submit the leaf strings of its guards and its request string, a settle the
--- strings of all versions that were made so far; those of earlier settles were named before
-abbrev pub line_strings : (List ℕ → List ℕ) → ℕ → List Numbered → Line → List (List ℕ)
-line_strings h block earlier (Submit client label clauses) =
-    flat_map clause_strings clauses ++ request_string (next_request h (submitted h earlier) client label clauses) ∷ []
-line_strings h block earlier Settle = executed_strings h block (submitted h earlier)
-line_strings h block earlier (Read client label) = []
-line_strings h block earlier (ShowMember member) = []
-line_strings h block earlier (ShowVersion member label version) = []
+-- the strings of all versions that the committed list has made after some lines; what was made before was named before
+abbrev pub committed_strings : (List ℕ → List ℕ) → Script → List Numbered → List (List ℕ)
+committed_strings h script lines = executed_strings h script.setup.block (committed_requests h script lines)
+
+-- what an event names after earlier lines: a submit the leaf strings of its guards and its request string; a delivery and a
+-- settle the strings of the versions that are made
+abbrev pub line_strings : (List ℕ → List ℕ) → Script → List Numbered → Numbered → List (List ℕ)
+line_strings h script earlier line = by line.1
+  where
+    by : Line → List (List ℕ)
+    by (Submit client label clauses) = flat_map clause_strings clauses ++ request_string (next_request h (submitted h earlier) client label clauses) ∷ []
+    by (Deliver sender to place) = committed_strings h script (line ∷ earlier)
+    by Settle = committed_strings h script (line ∷ earlier)
+    by other = []
 
 -- all strings that a script names up to some lines
 abbrev pub named : (List ℕ → List ℕ) → Script → List Numbered → List (List ℕ)
 named h script [] = start_strings h script
-named h script (line ∷ earlier) = named h script earlier ++ line_strings h script.setup.block earlier line.1
+named h script (line ∷ earlier) = named h script earlier ++ line_strings h script earlier line

@@ -1,13 +1,13 @@
--- The requests that the lines of a script submit, and those of them that were executed. Lines have their numbers beside
+-- The requests that the lines of a script submit. Lines have their numbers beside
 -- them. A list of lines that came has the newest first, and so has a list of requests. Throughout, h names byte strings.
-use Rattle.std.specs.Prelude.{ℕ, ◌+◌, Bool, true, false, List, [], ◌∷◌, map, count_by, ◌==◌, if◌then◌else◌}
+use Rattle.std.specs.Prelude.{ℕ, ◌+◌, List, [], ◌∷◌, map, count_by, ◌==◌}
 use Rattle.pond_base.specs.declared.numbers.ClientId.{ClientId}
 use Rattle.guarded_update.specs.declared.request.Request.{Request}
 use Rattle.guarded_update.specs.declared.update.Clause.{Clause}
 use Rattle.guarded_update.specs.declared.update.Guard.{Guard}
 use Rattle.guarded_update.specs.declared.update.Guard.TheVariants as guards
 use Rattle.script_terms.specs.declared.line.Line.{Line}
-use Rattle.script_terms.specs.declared.line.Line.TheVariants.{Submit, Settle, Read, ShowMember, ShowVersion}
+use Rattle.script_terms.specs.declared.line.Line.TheVariants.{Submit}
 use Rattle.script_terms.specs.declared.line.LineClause.{LineClause}
 use Rattle.script_terms.specs.declared.line.LineGuard.{LineGuard}
 use Rattle.script_terms.specs.declared.line.LineGuard.TheVariants.{VersionIs, SizeIs, BlockIs}
@@ -42,24 +42,9 @@ next_request h earlier client label clauses = record {
 -- the requests after a line
 abbrev pub with_line : (List ℕ → List ℕ) → List Request → Line → List Request
 with_line h earlier (Submit client label clauses) = next_request h earlier client label clauses ∷ earlier
-with_line h earlier Settle = earlier
-with_line h earlier (Read client label) = earlier
-with_line h earlier (ShowMember member) = earlier
-with_line h earlier (ShowVersion member label version) = earlier
+with_line h earlier line = earlier
 
 -- the requests that lines submit
 abbrev pub submitted : (List ℕ → List ℕ) → List Numbered → List Request
 submitted h [] = []
 submitted h (line ∷ earlier) = with_line h (submitted h earlier) line.1
-
-abbrev pub is_settle : Line → Bool
-is_settle (Submit client label clauses) = false
-is_settle Settle = true
-is_settle (Read client label) = false
-is_settle (ShowMember member) = false
-is_settle (ShowVersion member label version) = false
-
--- the requests that a settle delivered: all that were submitted before the last one
-abbrev pub settled : (List ℕ → List ℕ) → List Numbered → List Request
-settled h [] = []
-settled h (line ∷ earlier) = if is_settle line.1 then submitted h earlier else settled h earlier

@@ -5,10 +5,6 @@ use Rattle.object_model.specs.Pieces.{pieces}
 use Rattle.script_grammar.specs.Words.{generated}
 use Rattle.text_model.proofs.append_and_read_back.Goals as goal
 
-pub returns-clause-settled : goal.returns-clause-settled
-unfolding decode_pairs encode_with digits pieces generated
-returns-clause-settled c = refl
-
 pub returns-clause-unsettled : goal.returns-clause-unsettled
 unfolding decode_pairs encode_with digits pieces generated
 returns-clause-unsettled c = refl

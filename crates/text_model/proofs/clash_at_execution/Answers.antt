@@ -5,10 +5,6 @@ use Rattle.object_model.specs.Pieces.{pieces}
 use Rattle.script_grammar.specs.Words.{generated}
 use Rattle.text_model.proofs.clash_at_execution.Goals as goal
 
-pub returns-clause-execution : goal.returns-clause-execution
-unfolding decode_pairs encode_with digits pieces generated
-returns-clause-execution c = refl
-
 pub returns-clause-guard : goal.returns-clause-guard
 unfolding decode_pairs encode_with digits pieces generated
 returns-clause-guard c = refl

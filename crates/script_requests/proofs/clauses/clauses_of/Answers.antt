@@ -1,11 +1,11 @@
-use Rattle.std.proofs.Common.{◌≡◌, ◌∷◌, ◌++◌, [], Contains, IfErr, map, take, ap, ◌∙◌, sym}
+use Rattle.std.proofs.Common.{◌∷◌, ◌++◌, [], Contains, map, take, ap, ◌∙◌, sym}
 use Rattle.std.specs.List.{flat_map}
 use Rattle.std.proofs.lemmas.List.{map-append}
 use Rattle.std.proofs.lemmas.Result.{err_from_is_err_and}
 use Rattle.block_names.proofs.Grown.{clash_wider}
-use Rattle.text_model.specs.Named.{guard_strings, clause_strings}
+use Rattle.text_model.specs.Named.{clause_strings}
 use Rattle.text_model.specs.Requests as model
-use Rattle.script_requests.proofs.Holds.{names_more, grew_within, grew_so_far, part_within, take_one_more}
+use Rattle.script_requests.proofs.Holds.{names_more, grew_within, part_within, take_one_more}
 use Rattle.script_requests.proofs.clauses.clauses_of.Goals as goal
 
 pub returns-in_err-clause-clause-grew : goal.returns-in_err-clause-clause-grew

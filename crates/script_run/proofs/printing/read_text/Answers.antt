@@ -1,18 +1,18 @@
-use Rattle.std.proofs.Common.{◌<◌, ◌∙◌, ap, sym, subst, arith}
 use Rattle.std.proofs.lemmas.Result.{IfOk-weaker}
-use Rattle.object_model.specs.Folds.{versions_after}
 use Rattle.object_fold.specs.Executed.{AreAfter}
-use Rattle.script_run.specs.States.{StateView}
-use Rattle.script_run.proofs.Versions.{newest_read}
+use Rattle.text_model.specs.Events.{ring_for, events_of}
+use Rattle.text_model.specs.Executed.{committed_requests}
+use Rattle.script_run.specs.States.{lines_before, namings_for}
+use Rattle.script_run.proofs.Shown.{committed_after, world_is}
 use Rattle.script_run.proofs.printing.read_text.Goals as goal
 
-pub returns-in_ok-bytes-in-Some : goal.returns-in_ok-bytes-in-Some
-returns-in_ok-bytes-in-Some g c =
+pub returns : goal.returns
+returns g c =
     let h = g.H.Hash160.naming in
-    IfOk-weaker c.version_line.result _ _
-    (λ printed line block strings sent done is.
-    let after : AreAfter h block done c.state.inside.objects = subst (AreAfter h block done) (sym (ap (λ (v : StateView). v.objects) c.state.view_is)) is.objects in
-    let made : 0 < c.last-last.result.0 = omega arith in
-    newest_read h block (versions_after h block c.args.label.now done) c.last-last.result.0 c.in-Some.tree.now c.deref.result.now _ (c.last-last.ensures h block done after) made (sym (c.in-Some.ensures.tree h block done after))
-    (λ content older stands. c.deref.ensures.value ∙ c.in_ok-bytes-in-Some.ensures.newest h block content older stands) line)
-    c.version_line.ensures
+    let script = c.args.script.now in
+    let lines = lines_before script c.args.at in
+    let stands = world_is h script lines c.args.state.now.site c.args.state.now.skips c.world.result.now c.requires.stands c.world.ensures.world in
+    let after : AreAfter h script.setup.block (committed_requests h script lines) c.objects-objects.result.now =
+    committed_after c.ring_folds.ensures h script lines c.committed.result.now c.objects-objects.result.now c.requires.within c.objects-objects.ensures.after
+    (c.committed.ensures.chosen (ring_for h script) (namings_for h script) (events_of h script lines) stands) in
+    IfOk-weaker c.read_text.result _ _ (λ printed p client. p h script.setup.block (committed_requests h script lines) after) c.read_text.ensures

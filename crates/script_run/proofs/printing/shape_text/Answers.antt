@@ -1,23 +1,44 @@
-use Rattle.std.proofs.Common.{sym, ap, subst}
-use Rattle.std.proofs.lemmas.Result.{IfOk-weaker}
-use Rattle.object_model.specs.Folds.{versions_after}
+use Rattle.std.proofs.Common.{is_some, not, string_bytes, ◌≡◌, true, false, sym, ◌∙◌, ap}
+use Rattle.ring_model.specs.Messages.{Member}
 use Rattle.object_fold.specs.Executed.{AreAfter}
-use Rattle.script_run.specs.States.{StateView}
-use Rattle.script_run.proofs.Versions.{shown, none_shown}
+use Rattle.pond_node.specs.Standing.{NodeStands}
+use Rattle.text_model.specs.Events.{ring_for, events_of, world_of, is_declared_faulty}
+use Rattle.text_model.specs.Executed.{member_requests}
+use Rattle.script_run.specs.States.{lines_before, namings_for}
+use Rattle.script_run.proofs.Shown.{member_after, version_faulty, version_here, version_told, world_is}
 use Rattle.script_run.proofs.printing.shape_text.Goals as goal
 
-pub returns-in_ok-from_str-in-None : goal.returns-in_ok-from_str-in-None
-returns-in_ok-from_str-in-None g c = λ block strings sent done is.
+pub returns-in-Some : goal.returns-in-Some
+returns-in-Some g c =
     let h = g.H.Hash160.naming in
-    let after : AreAfter h block done c.state.inside.objects = subst (AreAfter h block done) (sym (ap (λ (v : StateView). v.objects) c.state.view_is)) is.objects in
-    none_shown h block (versions_after h block c.args.label.now done) c.args.version.0 _ (sym (c.in-None.ensures.tree h block done after)) c.in_ok-from_str-in-None.ensures.ok
+    let script = c.args.script.now in
+    let at = c.args.at in
+    let member = c.args.member in
+    let turn = c.requires in
+    let lines = lines_before script at in
+    let ring = ring_for h script in
+    let namings = namings_for h script in
+    let events = events_of h script lines in
+    let got = (world_of h script lines).got (Member member.0) in
+    let done = member_requests h script lines member in
+    let stands = world_is h script lines c.args.state.now.site c.args.state.now.skips c.world.result.now turn.stands c.world.ensures.world in
+    let here = version_here c.lines_fit_in_turn.ensures.turn h script at member c.args.label.now c.args.version c.args.state.now.site c.args.state.now.skips turn in
+    let correct : true ≡ not (is_declared_faulty script member.0) = sym (ap is_some c.in-Some.is) ∙ c.node.ensures.there ring namings events stands here in
+    let node : NodeStands c.in-Some.node.now ring namings member.0 got = c.in-Some.ensures.stands ring namings events stands here in
+    let after : AreAfter h script.setup.block done c.objects.result.now =
+    member_after c.ring_folds.ensures h script lines member c.in-Some.node.now c.objects.result.now turn.within c.objects.ensures.after node in
+    version_told string_bytes c.shape_text.result h script lines member c.args.label.now c.args.version c.objects.result.now correct after c.shape_text.ensures
 
-pub returns-in_ok-known-in-Some : goal.returns-in_ok-known-in-Some
-returns-in_ok-known-in-Some g c =
+pub returns-in-None : goal.returns-in-None
+returns-in-None g c =
     let h = g.H.Hash160.naming in
-    IfOk-weaker c.shape_line.result _ _
-    (λ printed line block strings sent done is.
-    let after : AreAfter h block done c.state.inside.objects = subst (AreAfter h block done) (sym (ap (λ (v : StateView). v.objects) c.state.view_is)) is.objects in
-    shown h block (versions_after h block c.args.label.now done) c.args.version.0 c.in-Some.tree.now _ (sym (c.in-Some.ensures.tree h block done after))
-    (λ content older up stands. line h block content older stands (c.in_ok-known-in-Some.ensures block strings sent done is content older up)))
-    c.shape_line.ensures
+    let script = c.args.script.now in
+    let at = c.args.at in
+    let member = c.args.member in
+    let turn = c.requires in
+    let lines = lines_before script at in
+    let ring = ring_for h script in
+    let stands = world_is h script lines c.args.state.now.site c.args.state.now.skips c.world.result.now turn.stands c.world.ensures.world in
+    let here = version_here c.lines_fit_in_turn.ensures.turn h script at member c.args.label.now c.args.version c.args.state.now.site c.args.state.now.skips turn in
+    let faulty : false ≡ not (is_declared_faulty script member.0) = sym (ap is_some c.in-None.is) ∙ c.node.ensures.there ring (namings_for h script) (events_of h script lines) stands here in
+    version_faulty string_bytes c.faulty_text.result h script lines member c.args.label.now c.args.version faulty c.faulty_text.ensures

@@ -1,26 +1,50 @@
-use Rattle.std.proofs.Common.{◌≡◌, ◌∷◌, sym, ◌∙◌, subst}
+use Rattle.std.proofs.Common.{◌≡◌, ◌∷◌, length, get_or, refl, sym, ◌∙◌, ap, subst, arith}
+use Rattle.std.specs.Io.KnownBytes.{Appends}
 use Rattle.pond_base.specs.Outside.{AppendsPrefix}
+use Rattle.ring_model.proofs.History.{same_some}
+use Rattle.script_requests.specs.Holding.{IsClashOf}
 use Rattle.text_model.specs.Named.{named}
+use Rattle.text_model.specs.Requests.{Numbered}
 use Rattle.text_model.specs.Text.{line_text}
 use Rattle.script_run.specs.Ends.{written_at}
-use Rattle.script_run.proofs.Stepping.{clash_written, line_written}
+use Rattle.script_run.specs.States.{StandsFor, lines_before}
+use Rattle.script_run.proofs.Stepping.{ends_here, line_written}
+use Rattle.script_run.proofs.Shown.{line_here}
+use Rattle.script_run.proofs.Turns.{lines_more}
 use Rattle.script_run.proofs.running.after_line.Goals as goal
 
+pub bounds-as_slice-at : goal.bounds-as_slice-at
+bounds-as_slice-at g c = omega (arith, ap length c.as_slice.ensures, c.requires.here)
+
+pub bounds-as_slice-at-2 : goal.bounds-as_slice-at-2
+bounds-as_slice-at-2 g c = omega (arith, ap length c.as_slice.ensures, c.requires.here)
+
 pub returns-in-Err-clause-ends : goal.returns-in-Err-clause-ends
-returns-in-Err-clause-ends g c = λ script before is.
+returns-in-Err-clause-ends g c = λ line here.
     let h = g.H.Hash160.naming in
-    let line = c.args.line.now in
-    c.end_at.ensures h (named h script ((c.args.number, line) ∷ before)) (written_at h script before (c.args.number, line)) (c.in-Err.ensures.fault script before is c.args.number)
-    (clash_written h script before (c.args.number, line))
+    let script = c.args.script.now in
+    let before = lines_before script c.args.at in
+    let fault : IsClashOf h (named h script (line ∷ before)) c.in-Err.fault = subst (λ lines. IsClashOf h (named h script lines) c.in-Err.fault) (lines_more script c.args.at line here) c.in-Err.ensures.fault in
+    let there = line_here script c.as_slice.result.now c.args.at c.index-as_slice-at.result c.index-as_slice-at.result.1 c.as_slice.ensures c.requires.here c.index-as_slice-at.is refl in
+    let number : c.index-as_slice-at.result.0 ≡ line.0 = ap (λ (l : Numbered). l.0) (same_some (c.index-as_slice-at.result.0, c.index-as_slice-at.result.1) line (sym there ∙ here)) in
+    let read : (get_or c.as_slice.result.now c.args.at c.index-as_slice-at.result).0 ≡ line.0 = ap (λ (l : Numbered). l.0) (sym c.index-as_slice-at.is) ∙ number in
+    ends_here h script before line (get_or c.as_slice.result.now c.args.at c.index-as_slice-at.result).0 _ c.end_at.result c.in-Err.fault read c.end_at.ensures fault
 
 pub returns-in_default-write_whole-clause-ends : goal.returns-in_default-write_whole-clause-ends
-returns-in_default-write_whole-clause-ends g c = λ script before is.
+returns-in_default-write_whole-clause-ends g c = λ line here.
     let h = g.H.Hash160.naming in
-    let line = c.args.line.now in
-    let next = c.in-Ok-after.ensures.stands script before is c.args.number in
-    let text : c.as_bytes.result.now ≡ line_text h script.setup.block before line = c.as_bytes.ensures.value ∙ c.in-Ok.ensures script before is in
-    let same : c.as_bytes.result.now ≡ written_at h script before (c.args.number, line) = text ∙ sym (line_written h script before (c.args.number, line) c.in-Ok-after.state next) in
+    let script = c.args.script.now in
+    let before = lines_before script c.args.at in
+    let next : StandsFor h script (line ∷ before) c.in-Ok-after.state.site c.in-Ok-after.state.skips =
+    subst (λ lines. StandsFor h script lines c.in-Ok-after.state.site c.in-Ok-after.state.skips) (lines_more script c.args.at line here) c.in-Ok-after.ensures.stands in
+    let text : c.as_bytes.result.now ≡ line_text h script before line.1 = c.as_bytes.ensures.value ∙ c.in-Ok.ensures line here in
+    let same : c.as_bytes.result.now ≡ written_at h script before line = text ∙ sym (line_written h script before line c.in-Ok-after.state.site c.in-Ok-after.state.skips next) in
     (subst (AppendsPrefix (g.K.Sink.taken c.args.sink.now) (g.K.Sink.taken c.write_whole.new.sink)) same c.write_whole.ensures.prefix, c.in_default-write_whole.ensures.cause.failed)
 
-pub returns-clause-stands : goal.returns-clause-stands
-returns-clause-stands g c = λ script before is. c.in-Ok-after.ensures.stands script before is c.args.number
+pub returns-clause-takes : goal.returns-clause-takes
+returns-clause-takes g c = λ line here.
+    let h = g.H.Hash160.naming in
+    let script = c.args.script.now in
+    let before = lines_before script c.args.at in
+    let text : c.as_bytes.result.now ≡ line_text h script before line.1 = c.as_bytes.ensures.value ∙ c.in-Ok.ensures line here in
+    (subst (Appends (g.K.Sink.taken c.args.sink.now) (g.K.Sink.taken c.write_whole.new.sink)) text c.in-Ok-write_whole.ensures.whole, c.in-Ok-write_whole.ensures.kept)

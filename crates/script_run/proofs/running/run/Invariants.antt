@@ -1,10 +1,10 @@
 use Rattle.script_run.proofs.Stepping.{Stands}
 use Rattle.script_run.proofs.running.run.Given as goal
 
-abbrev pub invariant-loop-number : goal.invariant-loop-number
-invariant-loop-number g l = Stands g.H.Hash160.naming l.script l.number-index (record {
+abbrev pub invariant-loop-at : goal.invariant-loop-at
+invariant-loop-at g l = Stands g.H.Hash160.naming l.script l.at (record {
   before = g.K.Sink.taken l.initial.sink;
   after = g.K.Sink.taken l.sink;
   faults_before = g.K.Sink.faults l.initial.sink;
   faults_after = g.K.Sink.faults l.sink;
-}) l.state
+}) l.state.site l.state.skips

@@ -1,26 +1,116 @@
-use Rattle.std.proofs.Common.{List, ℕ}
-use Rattle.std.proofs.lemmas.Result.{IfOk-weaker, IfErr-weaker}
-use Rattle.text_model.specs.Named.{named}
-use Rattle.text_model.specs.Requests.{submitted, settled}
+use Rattle.std.proofs.Common.{◌≡◌, List, Some, length, slice_get, inl, inr, refl, sym, ap, subst, arith}
+use Rattle.script_terms.specs.declared.line.Line.{Line}
+use Rattle.script_terms.specs.declared.line.LineClause.{LineClause}
+use Rattle.script_terms.specs.declared.line.Line.TheVariants.{Submit, Resubmit, Deliver, Lose, Settle, Mute, Unmute, ForgeOrder, ForgePrepare, ForgeCommit, ForgeRaw}
+use Rattle.script_run.proofs.Shown.{line_here}
+use Rattle.script_run.proofs.Passed.{IsShow, shown_next}
 use Rattle.script_run.proofs.state.State.after.Goals as goal
 
-pub returns-in-Submit-clause-stands : goal.returns-in-Submit-clause-stands
-returns-in-Submit-clause-stands g c =
-    let h : List ℕ → List ℕ = g.H.Hash160.naming in
-    IfOk-weaker c.submitted.result _ _
-    (λ state p script before is number. rw (c.in-Submit.is, ← c.as_slice.ensures) (p script.setup.block (named h script before) (submitted h before) (settled h before) is))
-    c.submitted.ensures.stands
+pub bounds-as_slice-at : goal.bounds-as_slice-at
+bounds-as_slice-at g c = omega (arith, ap length c.as_slice.ensures, c.requires.here)
 
-pub returns-in-Submit-clause-fault : goal.returns-in-Submit-clause-fault
-returns-in-Submit-clause-fault g c =
-    let h : List ℕ → List ℕ = g.H.Hash160.naming in
-    IfErr-weaker c.submitted.result _ _
-    (λ fault p script before is number. rw (c.in-Submit.is, ← c.as_slice.ensures) (p script.setup.block (named h script before) (submitted h before) (settled h before) is))
-    c.submitted.ensures.fault
+pub submitted-requires : goal.submitted-requires
+submitted-requires g c = record {
+  within = c.requires.within;
+  number = c.index-as_slice-at.result.0;
+  here = subst (λ (cs : List LineClause). slice_get c.args.script.now.lines c.args.at ≡ Some (c.index-as_slice-at.result.0, Submit c.in-Submit.client c.in-Submit.label cs)) (sym c.as_slice-in-Submit.ensures)
+      (line_here c.args.script.now c.as_slice.result.now c.args.at c.index-as_slice-at.result (Submit c.in-Submit.client c.in-Submit.label c.in-Submit.clauses) c.as_slice.ensures c.requires.here c.index-as_slice-at.is c.in-Submit.is);
+  stands = c.requires.stands;
+}
 
-pub returns-in-Settle-clause-stands : goal.returns-in-Settle-clause-stands
-returns-in-Settle-clause-stands g c =
-    let h : List ℕ → List ℕ = g.H.Hash160.naming in
-    IfOk-weaker c.settled.result _ _
-    (λ state p script before is number. rw c.in-Settle.is (p script.setup.block (named h script before) (submitted h before) (settled h before) is))
-    c.settled.ensures.stands
+pub resubmitted-requires : goal.resubmitted-requires
+resubmitted-requires g c = record {
+  within = c.requires.within;
+  number = c.index-as_slice-at.result.0;
+  here = line_here c.args.script.now c.as_slice.result.now c.args.at c.index-as_slice-at.result (Resubmit c.in-Resubmit.client c.in-Resubmit.number) c.as_slice.ensures c.requires.here c.index-as_slice-at.is c.in-Resubmit.is;
+  stands = c.requires.stands;
+}
+
+pub delivered-requires : goal.delivered-requires
+delivered-requires g c = record {
+  within = c.requires.within;
+  number = c.index-as_slice-at.result.0;
+  here = line_here c.args.script.now c.as_slice.result.now c.args.at c.index-as_slice-at.result (Deliver c.in-Deliver.from c.in-Deliver.to c.in-Deliver.place) c.as_slice.ensures c.requires.here c.index-as_slice-at.is c.in-Deliver.is;
+  stands = c.requires.stands;
+}
+
+pub lost-requires : goal.lost-requires
+lost-requires g c = record {
+  within = c.requires.within;
+  number = c.index-as_slice-at.result.0;
+  here = line_here c.args.script.now c.as_slice.result.now c.args.at c.index-as_slice-at.result (Lose c.in-Lose.from c.in-Lose.to c.in-Lose.place) c.as_slice.ensures c.requires.here c.index-as_slice-at.is c.in-Lose.is;
+  stands = c.requires.stands;
+}
+
+pub settled-requires : goal.settled-requires
+settled-requires g c = record {
+  within = c.requires.within;
+  number = c.index-as_slice-at.result.0;
+  here = line_here c.args.script.now c.as_slice.result.now c.args.at c.index-as_slice-at.result (Settle) c.as_slice.ensures c.requires.here c.index-as_slice-at.is c.in-Settle.is;
+  stands = c.requires.stands;
+}
+
+pub muted-requires : goal.muted-requires
+muted-requires g c = record {
+  within = c.requires.within;
+  number = c.index-as_slice-at.result.0;
+  here = line_here c.args.script.now c.as_slice.result.now c.args.at c.index-as_slice-at.result (Mute c.in-Mute.party) c.as_slice.ensures c.requires.here c.index-as_slice-at.is c.in-Mute.is;
+  stands = c.requires.stands;
+}
+
+pub unmuted-requires : goal.unmuted-requires
+unmuted-requires g c = record {
+  within = c.requires.within;
+  number = c.index-as_slice-at.result.0;
+  here = line_here c.args.script.now c.as_slice.result.now c.args.at c.index-as_slice-at.result (Unmute c.in-Unmute.party) c.as_slice.ensures c.requires.here c.index-as_slice-at.is c.in-Unmute.is;
+  stands = c.requires.stands;
+}
+
+pub forged_order-requires : goal.forged_order-requires
+forged_order-requires g c = record {
+  within = c.requires.within;
+  number = c.index-as_slice-at.result.0;
+  here = line_here c.args.script.now c.as_slice.result.now c.args.at c.index-as_slice-at.result (ForgeOrder c.in-ForgeOrder.member c.in-ForgeOrder.to c.in-ForgeOrder.seq c.in-ForgeOrder.client c.in-ForgeOrder.number) c.as_slice.ensures c.requires.here c.index-as_slice-at.is c.in-ForgeOrder.is;
+  stands = c.requires.stands;
+}
+
+pub forged_prepare-requires : goal.forged_prepare-requires
+forged_prepare-requires g c = record {
+  within = c.requires.within;
+  number = c.index-as_slice-at.result.0;
+  here = line_here c.args.script.now c.as_slice.result.now c.args.at c.index-as_slice-at.result (ForgePrepare c.in-ForgePrepare.member c.in-ForgePrepare.to c.in-ForgePrepare.seq c.in-ForgePrepare.client c.in-ForgePrepare.number) c.as_slice.ensures c.requires.here c.index-as_slice-at.is c.in-ForgePrepare.is;
+  stands = c.requires.stands;
+}
+
+pub forged_commit-requires : goal.forged_commit-requires
+forged_commit-requires g c = record {
+  within = c.requires.within;
+  number = c.index-as_slice-at.result.0;
+  here = line_here c.args.script.now c.as_slice.result.now c.args.at c.index-as_slice-at.result (ForgeCommit c.in-ForgeCommit.member c.in-ForgeCommit.to c.in-ForgeCommit.seq c.in-ForgeCommit.client c.in-ForgeCommit.number) c.as_slice.ensures c.requires.here c.index-as_slice-at.is c.in-ForgeCommit.is;
+  stands = c.requires.stands;
+}
+
+pub forged_raw-requires : goal.forged_raw-requires
+forged_raw-requires g c = record {
+  within = c.requires.within;
+  number = c.index-as_slice-at.result.0;
+  here = line_here c.args.script.now c.as_slice.result.now c.args.at c.index-as_slice-at.result (ForgeRaw c.in-ForgeRaw.member c.in-ForgeRaw.to c.in-ForgeRaw.bytes) c.as_slice.ensures c.requires.here c.index-as_slice-at.is c.in-ForgeRaw.is;
+  stands = c.requires.stands;
+}
+
+pub returns-in-Read-clause-stands : goal.returns-in-Read-clause-stands
+returns-in-Read-clause-stands g c =
+    let line : Line = c.index-as_slice-at.result.1 in
+    let shows : IsShow line = elim c.in-Read.is as (λ _. IsShow line) [
+      | inl read ↦ subst IsShow (sym read.2) tt
+      | inr r ↦ elim r as (λ _. IsShow line) [
+        | inl member ↦ subst IsShow (sym member.1) tt
+        | inr q ↦ elim q as (λ _. IsShow line) [ inl version ↦ subst IsShow (sym version.3) tt | inr recent ↦ subst IsShow (sym recent) tt ]
+      ]
+    ] in
+    shown_next g.H.Hash160.naming c.args.script.now c.args.at line c.args.self.site c.args.self.skips shows (record {
+      within = c.requires.within;
+      number = c.index-as_slice-at.result.0;
+      here = line_here c.args.script.now c.as_slice.result.now c.args.at c.index-as_slice-at.result line c.as_slice.ensures c.requires.here c.index-as_slice-at.is refl;
+      stands = c.requires.stands;
+    })

@@ -1,32 +1,36 @@
-use Rattle.std.proofs.Common.{List, ℕ, []}
+use Rattle.std.proofs.Common.{List, ℕ, [], ◌++◌, subst}
 use Rattle.std.specs.List.{flat_map}
-use Rattle.std.proofs.lemmas.Result.{IfOk-weaker, IfErr-weaker, err_from_is_err_and}
+use Rattle.std.proofs.lemmas.Result.{err_from_is_err_and}
 use Rattle.object_model.specs.Trees.{version_strings}
+use Rattle.script_requests.specs.Holding.{HoldsJust, IsClashOf}
+use Rattle.text_model.specs.Events.{no_manifest}
 use Rattle.text_model.specs.Named.{label_strings}
-use Rattle.script_run.proofs.Beginning.{first_state, first_clash}
+use Rattle.script_run.proofs.First.{holds_first, first_clash}
+use Rattle.script_run.proofs.Opening.{stands_first}
 use Rattle.script_run.proofs.state.State.new.Goals as goal
 
-pub returns-in_err-objects-clause-fault : goal.returns-in_err-objects-clause-fault
-returns-in_err-objects-clause-fault g c =
+pub returns-in_err-site-clause-fault : goal.returns-in_err-site-clause-fault
+returns-in_err-site-clause-fault g c =
     let p = err_from_is_err_and c.from_residual.result c.from_residual.ensures.1 in
-    rw (p.1, p.2) (first_clash g.H.Hash160.naming c.args.script.now.setup.block c.new-book.result.held c.new.new.book.held (flat_map label_strings c.args.script.now.lines) c.in_err-objects.field-0.0 c.new-book.ensures.held c.new.ensures.grew c.in_err-objects.ensures.fault)
+    let h : List ℕ → List ℕ = g.H.Hash160.naming in
+    let script = c.args.script.now in
+    rw (p.1, p.2) (first_clash h (version_strings h script.setup.block [] []) (flat_map label_strings script.lines) c.in_err-site.field-0.0 c.in_err-site.ensures.fault)
+
+pub returns-in_err-site-2-clause-fault : goal.returns-in_err-site-2-clause-fault
+returns-in_err-site-2-clause-fault g c =
+    let p = err_from_is_err_and c.from_residual-in_err-site-2.result c.from_residual-in_err-site-2.ensures.1 in
+    let h : List ℕ → List ℕ = g.H.Hash160.naming in
+    let script = c.args.script.now in
+    let just = holds_first h c.in_ok-site.site.held (version_strings h script.setup.block [] []) c.in_ok-site.ensures.grew (c.holds_empty.ensures (c.in_ok-site.ensures.stands no_manifest) c.requires) in
+    rw (p.1, p.2)
+    (subst (λ lines. IsClashOf h (version_strings h script.setup.block [] [] ++ flat_map label_strings lines) c.in_err-site-2.field-0.0) c.as_slice.ensures
+    (c.in_err-site-2.ensures.fault (version_strings h script.setup.block [] []) just))
 
 pub returns-clause-stands : goal.returns-clause-stands
 returns-clause-stands g c =
     let h : List ℕ → List ℕ = g.H.Hash160.naming in
-    let block = c.args.script.now.setup.block in
-    IfOk-weaker c.with_labels.result _ _
-    (λ state p. rw (← c.as_slice.ensures) (p block (version_strings h block [] []) [] []
-    (first_state h block c.new-book.result.held (record { held = c.new.new.book.held; objects = c.in_ok-objects.objects; requests = c.new-2.result; outcomes = c.new-3.result }) c.new-book.ensures.held
-    c.in_ok-objects.ensures.after c.in_ok-objects.ensures.known c.new.ensures.grew c.new-2.ensures c.new-3.ensures)))
-    c.with_labels.ensures.stands
-
-pub returns-clause-fault : goal.returns-clause-fault
-returns-clause-fault g c =
-    let h : List ℕ → List ℕ = g.H.Hash160.naming in
-    let block = c.args.script.now.setup.block in
-    IfErr-weaker c.with_labels.result _ _
-    (λ fault p. rw (← c.as_slice.ensures) (p block (version_strings h block [] []) [] []
-    (first_state h block c.new-book.result.held (record { held = c.new.new.book.held; objects = c.in_ok-objects.objects; requests = c.new-2.result; outcomes = c.new-3.result }) c.new-book.ensures.held
-    c.in_ok-objects.ensures.after c.in_ok-objects.ensures.known c.new.ensures.grew c.new-2.ensures c.new-3.ensures)))
-    c.with_labels.ensures.fault
+    let script = c.args.script.now in
+    stands_first h script c.in_ok-site.site c.in_ok-site-2.site _ (c.in_ok-site.ensures.stands no_manifest)
+    (holds_first h c.in_ok-site.site.held (version_strings h script.setup.block [] []) c.in_ok-site.ensures.grew (c.holds_empty.ensures (c.in_ok-site.ensures.stands no_manifest) c.requires)) c.in_ok-site-2.ensures.world
+    (λ strings just. subst (λ lines. HoldsJust h c.in_ok-site-2.site.held (strings ++ flat_map label_strings lines)) c.as_slice.ensures (c.in_ok-site-2.ensures.holds strings just)) c.new.ensures.items
+    c.new-2.ensures.items

@@ -1,48 +1,55 @@
-use Rattle.std.proofs.Common.{◌++◌, ◌+◌, length, reverse, take, slice_get, ◌∙◌, ap, sym, refl, arith, rules}
+use Rattle.std.proofs.Common.{rules, ◌≤◌, ◌∷◌, subst, sym}
 use Rattle.std.proofs.lemmas.Result.{err_from_is_err_and}
-use Rattle.text_model.specs.Named.{executed_strings}
-use Rattle.script_run.specs.States.{StateView}
-use Rattle.script_run.proofs.Settling.{settles_none, settles_more, settles_all, settles_clash, there}
+use Rattle.pond_node.specs.declared.node.Node.{Node}
+use Rattle.pond_node.specs.Standing.{NodeStands}
+use Rattle.pond_world.specs.Sites.{SiteView}
+use Rattle.ring_model.specs.Laws.{NoClash}
+use Rattle.ring_world.specs.Deliveries.{IsNamedIn}
+use Rattle.ring_world.specs.Skipping.{is_skipped}
+use Rattle.ring_world.specs.declared.skips.Skips.{Skips}
+use Rattle.ring_world.specs.declared.state.World.{World}
+use Rattle.ring_world.specs.Worlds.{WorldStands}
+use Rattle.script_terms.specs.declared.line.Line.TheVariants.{Settle}
+use Rattle.text_model.specs.Events.{ring_for, events_of, world_of, most_messages}
+use Rattle.script_run.specs.States.{lines_before, namings_for}
+use Rattle.script_run.proofs.Settling.{settle_named, settle_stands, settled_next, clash_here}
 use Rattle.script_run.proofs.state.State.settled.Goals as goal
 
-pub loop-init : goal.loop-init
-loop-init g c =
-    let count = c.len-counter.ensures ∙ ap (λ (v : StateView). length v.outcomes) c.state.view_is in
-    record {
-      settles = λ block strings sent done is. settles_none g.H.Hash160.naming block strings sent done c.args.self c.len-counter.result is count;
-      count = count;
-      requests = refl;
-    }
-
-pub returns-in_err-state-clause-fault : goal.returns-in_err-state-clause-fault
-returns-in_err-state-clause-fault g c =
+pub returns-in_err-site-clause-fault : goal.returns-in_err-site-clause-fault
+returns-in_err-site-clause-fault g c =
+    let h = g.H.Hash160.naming in
+    let script = c.args.script.now in
+    let at = c.args.at in
+    let site : SiteView = c.args.self.site in
+    let skips : Skips = c.args.self.skips in
+    let ring = (c.setups_join.ensures.sound h script c.requires.within.setup).0 in
+    let events = events_of h script (lines_before script at) in
+    let here : WorldStands NodeStands (ring_for h script) (namings_for h script) c.world.result.now events =
+    subst (λ (w : World Node). WorldStands NodeStands (ring_for h script) (namings_for h script) w events) (sym c.world.ensures.world) c.requires.stands.stands in
+    let apart : NoClash (ring_for h script) (world_of h script (lines_before script at)).submits = c.submits_apart.ensures (ring_for h script) (namings_for h script) events ring here in
     let p = err_from_is_err_and c.from_residual.result c.from_residual.ensures.1 in
-    let h = g.H.Hash160.naming in
-    let k = c.loop.counter in
     rw (p.1, p.2)
-    (λ block strings sent done is.
-    let now = c.loop.invariant.settles block strings sent done is in
-    let next = there c.loop.state.requests sent k now.requests (search rules) in
-    settles_clash h block strings sent k next.0 c.in_err-state.field-0.0 next.1
-    (c.in_err-state.ensures.fault block (strings ++ executed_strings h block (reverse (take k (reverse sent)))) sent (reverse (take k (reverse sent))) now next.0
-    (ap (slice_get c.loop.state.requests) (sym c.loop.invariant.count) ∙ ap (λ xs. slice_get xs k) now.requests ∙ next.1)))
-
-pub loop-preserved : goal.loop-preserved
-loop-preserved g c =
-    let h = g.H.Hash160.naming in
-    let k = c.loop.counter in
-    record {
-      settles = λ block strings sent done is.
-          let now = c.loop.invariant.settles block strings sent done is in
-          let next = there c.loop.state.requests sent k now.requests (search rules) in
-          settles_more h block strings sent k next.0 c.in_ok-state.state next.1
-          (c.in_ok-state.ensures.stands block (strings ++ executed_strings h block (reverse (take k (reverse sent)))) sent (reverse (take k (reverse sent))) now next.0
-          (ap (slice_get c.loop.state.requests) (sym c.loop.invariant.count) ∙ ap (λ xs. slice_get xs k) now.requests ∙ next.1));
-      count = ap (λ n. n + 1) c.loop.invariant.count ∙ sym c.in_ok-state.ensures.count.0;
-      requests = c.in_ok-state.ensures.count.1 ∙ c.loop.invariant.requests;
-    }
+    (clash_here h script at Settle site skips (IsNamedIn (ring_for h script) (namings_for h script) (is_skipped skips) events) c.in_err-site.field-0.0 c.requires
+    (settle_named c.submits_are_requests.ensures.strings c.skips_join.ensures c.settles_are_named.ensures h script at site skips c.requires apart)
+    (c.in_err-site.ensures.fault (ring_for h script) (namings_for h script) events ring c.requires.stands.stands))
 
 pub returns-clause-stands : goal.returns-clause-stands
-returns-clause-stands g c = λ block strings sent done is.
-    let now = c.loop.invariant.settles block strings sent done is in
-    settles_all g.H.Hash160.naming block strings sent c.loop.counter c.loop.state (omega (arith, c.loop-test.false, c.len-end.ensures, ap (λ (v : StateView). length v.requests) c.state.view_is, ap length is.requests)) now
+returns-clause-stands g c =
+    let h = g.H.Hash160.naming in
+    let script = c.args.script.now in
+    let at = c.args.at in
+    let site : SiteView = c.args.self.site in
+    let skips : Skips = c.args.self.skips in
+    let ring = (c.setups_join.ensures.sound h script c.requires.within.setup).0 in
+    let events = events_of h script (lines_before script at) in
+    let here : WorldStands NodeStands (ring_for h script) (namings_for h script) c.world.result.now events =
+    subst (λ (w : World Node). WorldStands NodeStands (ring_for h script) (namings_for h script) w events) (sym c.world.ensures.world) c.requires.stands.stands in
+    let apart : NoClash (ring_for h script) (world_of h script (lines_before script at)).submits = c.submits_apart.ensures (ring_for h script) (namings_for h script) events ring here in
+    let now : SiteView = c.in_ok-site.site in
+    let few : c.in_ok-site.field-0-1 ≤ most_messages = search rules in
+    let settles = c.in_ok-site.ensures.settles (ring_for h script) (namings_for h script) events ring c.requires.stands.stands in
+    let stands = settle_stands c.skips_join.ensures c.settled_joins.ensures.joins h script at site skips now c.in_ok-site.field-0-1 c.requires few settles in
+    settled_next h script at site now skips (IsNamedIn (ring_for h script) (namings_for h script) (is_skipped skips) events) c.requires stands
+    (c.in_ok-site.ensures.grew (ring_for h script) (namings_for h script) events ring c.requires.stands.stands)
+    (settle_named c.submits_are_requests.ensures.strings c.skips_join.ensures c.settles_are_named.ensures h script at site skips c.requires apart)
+    (c.holds_committed.ensures ((c.requires.number, Settle) ∷ lines_before script at) stands c.requires.within)

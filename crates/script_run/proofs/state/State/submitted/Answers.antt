@@ -1,73 +1,113 @@
-use Rattle.std.proofs.Common.{◌≡◌, ◌∷◌, [], ◌++◌, ◌+◌, List, length, Contains, ◌∙◌, ap, refl, subst, arith}
+use Rattle.std.proofs.Common.{◌≡◌, ◌∷◌, [], Contains, true, ◌∙◌, sym, subst, arith}
 use Rattle.std.specs.List.{flat_map}
 use Rattle.std.proofs.lemmas.Result.{err_from_is_err_and}
-use Rattle.std.proofs.lemmas.List.Elements.{Contains-append_left, Contains-append_right}
 use Rattle.block_names.specs.Growth.{Grew}
-use Rattle.block_names.proofs.Grown.{grew_then, clash_wider}
-use Rattle.guarded_update.specs.declared.request.Request.{Request}
-use Rattle.guarded_update.specs.declared.update.Clause.{Clause}
+use Rattle.guarded_update.specs.Fitting.{request_fits}
 use Rattle.guarded_update.specs.Spelling.{request_string}
+use Rattle.pond_world.specs.Sites.{IsClashAfter}
+use Rattle.ring_world.specs.declared.event.Event.{Event}
+use Rattle.ring_world.specs.declared.event.Event.TheVariants as event
+use Rattle.ring_world.specs.Steps.{IsStep}
+use Rattle.script_terms.specs.declared.line.Line.{Line}
+use Rattle.script_terms.specs.declared.line.Line.TheVariants.{Submit}
+use Rattle.text_model.specs.Events.{ring_for, events_of}
 use Rattle.text_model.specs.Named.{clause_strings}
-use Rattle.text_model.specs.Requests.{next_request}
-use Rattle.script_requests.proofs.Holds.{all_both, all_named}
-use Rattle.script_run.specs.States.{StateView, IsSound}
-use Rattle.script_run.proofs.Naming.{named_clash, one_string}
-use Rattle.script_run.proofs.Submitting.{request_is, both_grew, leaves_grew, submitted_one, sound_more}
+use Rattle.text_model.specs.Requests.{next_request, submitted}
+use Rattle.tree_format.specs.Strings.{label_string}
+use Rattle.script_run.specs.States.{lines_before, namings_for}
+use Rattle.script_run.proofs.Requesting.{counted, few_counted, next_fits, next_is, submits, stands_same, stands_next, second_held}
+use Rattle.script_run.proofs.Submitted.{leaves_clash, request_clash, submitted_next}
+use Rattle.script_run.proofs.Turns.{turn_fits}
 use Rattle.script_run.proofs.state.State.submitted.Goals as goal
+
+pub clauses_of-requires : goal.clauses_of-requires
+clauses_of-requires g c =
+    let a = c.args in
+    (turn_fits c.lines_fit_in_turn.ensures.turn g.H.Hash160.naming a.script.now a.at (Submit a.client a.label a.clauses.now) a.self.site a.self.skips c.requires).1.1
 
 pub returns-in_err-clauses-clause-fault : goal.returns-in_err-clauses-clause-fault
 returns-in_err-clauses-clause-fault g c =
     let p = err_from_is_err_and c.from_residual.result c.from_residual.ensures.1 in
     let h = g.H.Hash160.naming in
-    let leaves = flat_map clause_strings c.args.clauses.now in
-    rw (p.1, p.2)
-    (λ block strings sent done is.
-    let old : StateView = c.args.self in
-    let request = request_string (next_request h sent c.args.client c.args.label c.args.clauses.now) ∷ [] in
-    let grew = subst (λ m. Grew h m (Contains leaves) c.clauses_of.new.book.held) (ap (λ (v : StateView). v.held) c.self.view_is) c.clauses_of.ensures.grew in
-    named_clash h block strings (leaves ++ request) sent done old c.clauses_of.new.book.held c.in_err-clauses.field-0.0 is (leaves_grew h old.held c.clauses_of.new.book.held leaves request grew)
-    (clash_wider h c.clauses_of.new.book.held (Contains leaves) (Contains (leaves ++ request)) c.in_err-clauses.field-0.0 (λ s m. Contains-append_left leaves request s m) c.in_err-clauses.ensures.fault))
+    let a = c.args in
+    let grew = subst (λ held. Grew h held (Contains (flat_map clause_strings a.clauses.now)) c.clauses_of.new.book.held) c.into_parts-book.ensures.book c.clauses_of.ensures.grew in
+    rw (p.1, p.2) (leaves_clash h a.script.now a.at a.client a.label a.clauses.now a.self.site a.self.skips c.in_err-clauses.field-0.0 c.requires (c.clauses_of.new.book.held, grew, c.in_err-clauses.ensures.fault))
 
-pub returns-in_err-name-clause-fault : goal.returns-in_err-name-clause-fault
-returns-in_err-name-clause-fault g c =
-    let p = err_from_is_err_and c.from_residual-in_err-name.result c.from_residual-in_err-name.ensures.1 in
+pub overflow_add-request : goal.overflow_add-request
+overflow_add-request g c =
     let h = g.H.Hash160.naming in
-    let leaves = flat_map clause_strings c.args.clauses.now in
-    rw (p.1, p.2)
-    (λ block strings sent done is.
-    let old : StateView = c.args.self in
-    let next = next_request h sent c.args.client c.args.label c.args.clauses.now in
-    let made = request_is h block strings sent done old old.requests _ c.args.client c.args.label c.args.clauses.now c.count_of-number.result is refl c.count_of-number.ensures
-    (ap (λ (cs : List Clause). record { client = c.args.client; number = c.count_of-number.result + 1; label = c.args.label; update = record { clauses = cs } }) c.in_ok-clauses.ensures.value) in
-    let string = c.as_slice.ensures ∙ (c.in_ok-string.ensures.string ∙ ap request_string made) in
-    let grew = subst (λ m. Grew h m (Contains leaves) c.clauses_of.new.book.held) (ap (λ (v : StateView). v.held) c.self.view_is) c.clauses_of.ensures.grew in
-    named_clash h block strings (leaves ++ request_string next ∷ []) sent done old c.name.new.self.held c.in_err-name.field-0.0 is
-    (both_grew h old.held c.clauses_of.new.book.held c.name.new.self.held leaves c.as_slice.result.now (request_string next) string grew c.name.ensures.grew)
-    (clash_wider h c.name.new.self.held (λ s. s ≡ c.as_slice.result.now) (Contains (leaves ++ request_string next ∷ [])) c.in_err-name.field-0.0
-    (λ s e. Contains-append_right leaves (request_string next ∷ []) s (one_string c.as_slice.result.now (request_string next) s string e)) c.in_err-name.ensures.fault))
+    let a = c.args in
+    let fit = c.lines_fit_in_turn.ensures in
+    let counts = counted fit.turn c.submits_are_requests.ensures.counts h a.script.now a.at a.client a.label a.clauses.now a.self.site a.self.skips c.into_parts-book.result.1 c.submitted.result c.requires c.into_parts-book.ensures.world c.submitted.ensures in
+    omega (arith, counts, few_counted fit.turn fit.few h a.script.now a.at a.client a.label a.clauses.now a.self.site a.self.skips c.requires)
 
-pub invariant_of-result : goal.invariant_of-result
-invariant_of-result g c =
+pub write-requires : goal.write-requires
+write-requires g c =
     let h = g.H.Hash160.naming in
-    sound_more h (record { held = c.self.inside.book.held; objects = c.self.inside.objects; requests = c.self.inside.requests; outcomes = c.self.inside.outcomes }) _ (λ s. Unit {0}) _
-    (grew_then h c.self.inside.book.held c.clauses_of.new.book.held c.name.new.self.held (Contains (flat_map clause_strings c.args.clauses.now)) (λ s. s ≡ c.as_slice.result.now) (λ s. Unit {0}) (λ s m. tt) (λ s e. tt)
-    c.clauses_of.ensures.grew c.name.ensures.grew)
-    refl c.in_ok-push.ensures.ok refl (omega (arith, c.requires.room, ap (λ (v : StateView). length v.requests) c.self.view_is)) c.self.invariant
+    let a = c.args in
+    let fit = c.lines_fit_in_turn.ensures in
+    let counts = counted fit.turn c.submits_are_requests.ensures.counts h a.script.now a.at a.client a.label a.clauses.now a.self.site a.self.skips c.into_parts-book.result.1 c.submitted.result c.requires c.into_parts-book.ensures.world c.submitted.ensures in
+    subst (λ request. request_fits request ≡ true)
+    (sym (next_is h (submitted h (lines_before a.script.now a.at)) a.client c.submitted.result a.label a.clauses.now c.in_ok-clauses.clauses counts c.in_ok-clauses.ensures.value))
+    (next_fits fit.turn h a.script.now a.at a.client a.label a.clauses.now a.self.site a.self.skips c.requires)
+
+pub of-requires-clause-known : goal.of-requires-clause-known
+of-requires-clause-known g c = c.worlds_stay_known.ensures g.H.Hash160.naming c.into_parts-book.result.0.held c.clauses_of.new.book.held c.into_parts-book.result.1 c.clauses_of.ensures.grew.kept c.into_parts-book.ensures.known
+
+pub step-requires : goal.step-requires
+step-requires g c =
+    let h = g.H.Hash160.naming in
+    let a = c.args in
+    let fit = c.lines_fit_in_turn.ensures in
+    let counts = counted fit.turn c.submits_are_requests.ensures.counts h a.script.now a.at a.client a.label a.clauses.now a.self.site a.self.skips c.into_parts-book.result.1 c.submitted.result c.requires c.into_parts-book.ensures.world c.submitted.ensures in
+    let now = submits fit.turn c.submits_are_requests.ensures.counts c.setups_join.ensures.sound c.events_come_of_lines.ensures c.events_may_come.ensures h a.script.now a.at a.client c.submitted.result a.label a.clauses.now
+    c.in_ok-clauses.clauses a.self.site a.self.skips c.requires counts c.in_ok-clauses.ensures.value c.in_ok-write.ensures.allowed in
+    let earlier = lines_before a.script.now a.at in
+    let line : Line = Submit a.client a.label a.clauses.now in
+    let e : Event = event.Submit a.client a.label (record { clauses = c.in_ok-clauses.clauses }) in
+    subst (λ w. IsStep w e) (sym c.of.ensures.world)
+    (c.may_step.ensures (ring_for h a.script.now) (namings_for h a.script.now) (events_of h a.script.now earlier) (stands_same h a.script.now a.at line a.self.site a.self.skips c.into_parts-book.result.1 c.requires c.into_parts-book.ensures.world) now.may_step)
+
+pub returns-in_err-site-clause-fault : goal.returns-in_err-site-clause-fault
+returns-in_err-site-clause-fault g c =
+    let p = err_from_is_err_and c.from_residual-in_err-site.result c.from_residual-in_err-site.ensures.1 in
+    let h = g.H.Hash160.naming in
+    let a = c.args in
+    let fit = c.lines_fit_in_turn.ensures in
+    let counts = counted fit.turn c.submits_are_requests.ensures.counts h a.script.now a.at a.client a.label a.clauses.now a.self.site a.self.skips c.into_parts-book.result.1 c.submitted.result c.requires c.into_parts-book.ensures.world c.submitted.ensures in
+    let now = submits fit.turn c.submits_are_requests.ensures.counts c.setups_join.ensures.sound c.events_come_of_lines.ensures c.events_may_come.ensures h a.script.now a.at a.client c.submitted.result a.label a.clauses.now
+    c.in_ok-clauses.clauses a.self.site a.self.skips c.requires counts c.in_ok-clauses.ensures.value c.in_ok-write.ensures.allowed in
+    let earlier = lines_before a.script.now a.at in
+    let line : Line = Submit a.client a.label a.clauses.now in
+    let ring = (c.setups_join.ensures.sound h a.script.now c.requires.within.setup).0 in
+    let stood = stands_same h a.script.now a.at line a.self.site a.self.skips c.of.result.world c.requires (c.of.ensures.world ∙ c.into_parts-book.ensures.world) in
+    let grew = subst (λ held. Grew h held (Contains (flat_map clause_strings a.clauses.now)) c.clauses_of.new.book.held) c.into_parts-book.ensures.book c.clauses_of.ensures.grew in
+    rw (p.1, p.2)
+    (request_clash h a.script.now a.at a.client a.label a.clauses.now a.self.site a.self.skips c.clauses_of.new.book.held c.in_err-site.field-0.0 c.requires grew
+    (subst (λ held. IsClashAfter h held (Contains (label_string a.label ∷ request_string (next_request h (submitted h earlier) a.client a.label a.clauses.now) ∷ [])) c.in_err-site.field-0.0) c.of.ensures.held
+    (subst (λ strings. IsClashAfter h c.of.result.held (Contains strings) c.in_err-site.field-0.0) now.names
+    (c.in_err-site.ensures.fault (ring_for h a.script.now) (namings_for h a.script.now) (events_of h a.script.now earlier) ring stood now.may_happen))))
 
 pub returns-clause-stands : goal.returns-clause-stands
-returns-clause-stands g c = λ block strings sent done is.
+returns-clause-stands g c =
     let h = g.H.Hash160.naming in
-    let leaves = flat_map clause_strings c.args.clauses.now in
-    let old : StateView = c.args.self in
-    let next = next_request h sent c.args.client c.args.label c.args.clauses.now in
-    let made = request_is h block strings sent done old old.requests _ c.args.client c.args.label c.args.clauses.now c.count_of-number.result is refl c.count_of-number.ensures
-    (ap (λ (cs : List Clause). record { client = c.args.client; number = c.count_of-number.result + 1; label = c.args.label; update = record { clauses = cs } }) c.in_ok-clauses.ensures.value) in
-    let string = c.as_slice.ensures ∙ (c.in_ok-string.ensures.string ∙ ap request_string made) in
-    let grew = subst (λ m. Grew h m (Contains leaves) c.clauses_of.new.book.held) (ap (λ (v : StateView). v.held) c.self.view_is) c.clauses_of.ensures.grew in
-    submitted_one h block strings (leaves ++ request_string next ∷ []) sent done old _ next (subst (IsSound h) c.self.view_is c.self.invariant) is
-    (both_grew h old.held c.clauses_of.new.book.held c.name.new.self.held leaves c.as_slice.result.now (request_string next) string grew c.name.ensures.grew)
-    (all_both h c.clauses_of.new.book.held c.name.new.self.held leaves (request_string next ∷ []) (λ s. s ≡ c.as_slice.result.now) c.in_ok-clauses.ensures.holds c.name.ensures.grew
-    (all_named h c.clauses_of.new.book.held c.name.new.self.held c.as_slice.result.now (request_string next) string c.in_ok-name.ensures.held))
-    (ap (λ (v : StateView). v.objects) c.self.view_is)
-    (c.in_ok-push.ensures.ok ∙ (ap (λ (r : Request). c.self.inside.requests ++ r ∷ []) made ∙ ap (λ (v : StateView). v.requests ++ next ∷ []) c.self.view_is))
-    (ap (λ (v : StateView). v.outcomes) c.self.view_is)
+    let a = c.args in
+    let fit = c.lines_fit_in_turn.ensures in
+    let counts = counted fit.turn c.submits_are_requests.ensures.counts h a.script.now a.at a.client a.label a.clauses.now a.self.site a.self.skips c.into_parts-book.result.1 c.submitted.result c.requires c.into_parts-book.ensures.world c.submitted.ensures in
+    let now = submits fit.turn c.submits_are_requests.ensures.counts c.setups_join.ensures.sound c.events_come_of_lines.ensures c.events_may_come.ensures h a.script.now a.at a.client c.submitted.result a.label a.clauses.now
+    c.in_ok-clauses.clauses a.self.site a.self.skips c.requires counts c.in_ok-clauses.ensures.value c.in_ok-write.ensures.allowed in
+    let earlier = lines_before a.script.now a.at in
+    let line : Line = Submit a.client a.label a.clauses.now in
+    let ring = (c.setups_join.ensures.sound h a.script.now c.requires.within.setup).0 in
+    let stood = stands_same h a.script.now a.at line a.self.site a.self.skips c.of.result.world c.requires (c.of.ensures.world ∙ c.into_parts-book.ensures.world) in
+    let grew = subst (λ held. Grew h held (Contains (flat_map clause_strings a.clauses.now)) c.clauses_of.new.book.held) c.into_parts-book.ensures.book c.clauses_of.ensures.grew in
+    let e : Event = event.Submit a.client a.label (record { clauses = c.in_ok-clauses.clauses }) in
+    let next = next_request h (submitted h earlier) a.client a.label a.clauses.now in
+    let left = c.in_ok-site.site in
+    submitted_next h a.script.now a.at a.client a.label a.clauses.now a.self.site a.self.skips c.clauses_of.new.book.held left c.requires
+    (stands_next fit.turn c.events_come_of_lines.ensures h a.script.now a.at line e a.self.site a.self.skips left.world c.requires now.is_event (c.in_ok-site.ensures.stands (ring_for h a.script.now) (namings_for h a.script.now) (events_of h a.script.now earlier) ring stood now.may_happen))
+    grew c.in_ok-clauses.ensures.holds
+    (subst (λ held. Grew h held (Contains (label_string a.label ∷ request_string next ∷ [])) left.held) c.of.ensures.held
+    (subst (λ strings. Grew h c.of.result.held (Contains strings) left.held) now.names (c.in_ok-site.ensures.grew (ring_for h a.script.now) (namings_for h a.script.now) (events_of h a.script.now earlier) ring stood now.may_happen)))
+    (second_held h (label_string a.label) (request_string next) _ c.of.result.held left.held now.names (c.in_ok-site.ensures.held (ring_for h a.script.now) (namings_for h a.script.now) (events_of h a.script.now earlier) ring stood now.may_happen))
+    now.request

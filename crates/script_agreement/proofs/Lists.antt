@@ -1,0 +1,94 @@
+-- The lists of a script's members, by the agreement of the ring.
+use Rattle.std.proofs.Common.{◌≡◌, ◌<◌, ◌*◌, ◌+◌, ℕ, List, ◌++◌, map, Contains, ⊎_elim, sym, ap, ◌∙◌, subst, arith}
+use Rattle.std.proofs.lemmas.List.Elements.{Contains-append_right}
+use Rattle.guarded_update.specs.declared.request.Request.{Request}
+use Rattle.guarded_update.specs.Fitting.{IsRequest}
+use Rattle.message_model.specs.Requests.{request_at}
+use Rattle.message_model.proofs.Fields.{request_seam}
+use Rattle.ring_model.specs.Messages.{Ring, Member, FewFaulty}
+use Rattle.ring_model.specs.Member.{executed}
+use Rattle.ring_model.specs.World.{Event, world, IsLegal, correct, chosen}
+use Rattle.ring_model.specs.Laws.{IsPrefix, NoClash, IsCorrect}
+use Rattle.ring_model.proofs.Lists.{there_none, Each-there}
+use Rattle.ring_model.proofs.Agreement.{only_submitted}
+use Rattle.ring_model.proofs.Chosen.{all_correct, longest_of, grows}
+use Rattle.fold_model.specs.Folds.{requests_of}
+use Rattle.fold_model.specs.Growing.{requests-append}
+use Rattle.script_terms.specs.declared.script.Script.{Script}
+use Rattle.text_model.specs.Requests.{Numbered, submitted}
+use Rattle.text_model.specs.Events.{ring_for, events_of, world_of}
+use Rattle.text_model.specs.Executed.{committed_requests}
+use Rattle.script_names.proofs.Elements.{in_map, in_reverse}
+use Rattle.script_names.proofs.Worlds.{legal_behind, executed_chosen}
+use Rattle.script_names.proofs.Joined.{few_faulty}
+use Rattle.script_agreement.specs.OneList.{EndsWith}
+use Rattle.script_agreement.specs.Laws.{ListsAreOne}
+use Rattle.script_agreement.proofs.Lines.{lines_add, lines_submit, lines_ask}
+
+-- ---- the ring
+
+-- the requests of a head are how those of the whole list began
+head_ends : (head strings : List (List ℕ)) → IsPrefix head strings → EndsWith (requests_of strings) (requests_of head)
+head_ends head strings is = (requests_of is.0, ap requests_of (sym is.1) ∙ requests-append head is.0)
+
+-- what a correct member had executed before some of the events
+executed_ends : (g : Ring) → FewFaulty g → (all events : List Event) → EndsWith all events → IsLegal g all → NoClash g (world g all).submits → (i : ℕ) → IsCorrect g i
+    → EndsWith (requests_of (chosen g (world g all))) (requests_of (executed g ((world g events).got (Member i))))
+executed_ends g few all events is legal clear i ok =
+    let head = executed_chosen g few is.0 events (subst (IsLegal g) is.1 legal) (subst (λ es. NoClash g (world g es).submits) is.1 clear) i ok in
+    head_ends (executed g ((world g events).got (Member i))) (chosen g (world g all)) (subst (λ es. IsPrefix (executed g ((world g events).got (Member i))) (chosen g (world g es))) (sym is.1) head)
+
+-- what was committed before some of the events
+chosen_ends : (g : Ring) → FewFaulty g → (all events : List Event) → EndsWith all events → IsLegal g all → NoClash g (world g all).submits
+    → EndsWith (requests_of (chosen g (world g all))) (requests_of (chosen g (world g events)))
+chosen_ends g few all events is legal clear =
+    let head = grows g few is.0 events (subst (IsLegal g) is.1 legal) (subst (λ es. NoClash g (world g es).submits) is.1 clear) in
+    head_ends (chosen g (world g events)) (chosen g (world g all)) (subst (λ es. IsPrefix (chosen g (world g events)) (chosen g (world g es))) (sym is.1) head)
+
+-- whatever is committed was asked for
+chosen_asked : (g : Ring) (events : List Event) → IsLegal g events → (string : List ℕ) → Contains (chosen g (world g events)) string → Contains (world g events).submits string
+chosen_asked g events legal string there =
+    ⊎_elim (λ none. absurd (there_none string (subst (λ strings. Contains strings string) none there)))
+    (λ some.
+    Each-there (Contains (world g events).submits) (executed g ((world g events).got (Member some.0))) string (only_submitted g events legal (Member some.0))
+    (subst (λ strings. Contains strings string) some.2 there))
+    (longest_of (IsCorrect g) (λ i. executed g ((world g events).got (Member i))) (correct g) (all_correct g))
+
+-- ---- the lines
+
+-- a committed request was submitted, where those that are submitted can be read
+committed_asked : (h : List ℕ → List ℕ) (script : Script) (lines : List Numbered) → IsLegal (ring_for h script) (events_of h script lines) → ((request : Request) → Contains (submitted h lines) request → IsRequest request)
+    → (request : Request) → Contains (committed_requests h script lines) request → Contains (submitted h lines) request
+committed_asked h script lines legal are request there =
+    let strings = chosen (ring_for h script) (world_of h script lines) in
+    let spelled = in_map request_at strings request (in_reverse (map request_at strings) request there) in
+    let own = lines_ask h script lines spelled.0 (chosen_asked (ring_for h script) (events_of h script lines) legal spelled.0 spelled.1) in
+    let read : own.0 ≡ request = sym (request_seam own.0 (are own.0 own.1).places) ∙ ap request_at own.2 ∙ spelled.2 in
+    subst (Contains (submitted h lines)) read own.1
+
+-- the events of some of the lines
+events_end : (h : List ℕ → List ℕ) (script : Script) (lines later earlier : List Numbered) → lines ≡ later ++ earlier → EndsWith (events_of h script lines) (events_of h script earlier)
+events_end h script lines later earlier is = subst (λ all. EndsWith (events_of h script all) (events_of h script earlier)) (sym is) (lines_add h script later earlier)
+
+-- and their requests
+submits_end : (h : List ℕ → List ℕ) (lines later earlier : List Numbered) → lines ≡ later ++ earlier → EndsWith (submitted h lines) (submitted h earlier)
+submits_end h lines later earlier is = subst (λ all. EndsWith (submitted h all) (submitted h earlier)) (sym is) (lines_submit h later earlier)
+
+pub lists_are_one : ListsAreOne
+lists_are_one h script lines fits legal clear are = record {
+  members = λ later earlier is member low ok.
+      let below : member.0 < 3 * script.setup.f + 1 = omega (arith, low) in
+      executed_ends g few (events_of h script lines) (events_of h script earlier) (events_end h script lines later earlier is) legal clear member.0 (below, ok);
+  grows = λ later earlier is. chosen_ends g few (events_of h script lines) (events_of h script earlier) (events_end h script lines later earlier is) legal clear;
+  asked = λ later earlier is.
+      let before = events_end h script lines later earlier is in
+      let requests = submits_end h lines later earlier is in
+      committed_asked h script earlier (legal_behind g before.0 (events_of h script earlier) (subst (IsLegal g) before.1 legal))
+      (λ request there. Each-there IsRequest (submitted h lines) request are (subst (λ all. Contains all request) (sym requests.1) (Contains-append_right requests.0 (submitted h earlier) request there)));
+}
+  where
+    g : Ring
+    g = ring_for h script
+
+    few : FewFaulty g
+    few = few_faulty h script fits

@@ -1,0 +1,4 @@
+mod Fresh
+mod Versions
+mod Slots
+mod Told

@@ -1,0 +1,102 @@
+// The state before the first line.
+ghost use Rattle.std.specs.Prelude.{◌≡◌, ◌∷◌, ◌++◌, [], ℕ, List, IfOk, IfErr};
+ghost use Rattle.std.specs.List.{flat_map};
+ghost use Rattle.script_limits.specs.Limits.{IsWithin};
+ghost use Rattle.object_model.specs.Trees.{version_strings};
+ghost use Rattle.pond_node.specs.Standing.{NodeStands};
+ghost use Rattle.ring_world.specs.Worlds.{WorldStands};
+ghost use Rattle.script_requests.specs.Holding.{HoldsAll, HoldsJust, IsClashOf};
+ghost use Rattle.text_model.specs.Events.{ring_for};
+ghost use Rattle.text_model.specs.Named.{label_strings, start_strings};
+ghost use Rattle.tree_format.specs.Strings.{label_string};
+ghost use Rattle.script_run.specs.States.{StandsFor, namings_for};
+
+use crate::state::State;
+use block_names::{Hash160, NameFault};
+use fold_model::ring_folds;
+use pond_base::Label;
+use pond_world::Site;
+use ring_world::Skips;
+use script_events::setups_join;
+use script_terms::{Line, Script};
+use std::alloc::Global;
+use tree_format::write_label;
+
+impl<H: Hash160 + Drop> State<H> {
+    /// Before the first line: the root string of the empty version is named, and the label strings of
+    /// all events.
+    pub(crate) fn new(alloc: Global, script: &Script, hash: H) -> Result<State<H>, NameFault>
+        requires { IsWithin script.now }
+        ensures stands { IfOk result (λ state. StandsFor H.naming script.now [] state.site state.skips) }
+        ensures fault { IfErr result (IsClashOf H.naming (start_strings H.naming script.now)) }
+    {
+        setups_join();
+        let site = Site::open(alloc, hash, &script.setup)?;
+        holds_empty(&site, script);
+        let site = with_labels(alloc, site, script.lines.as_slice())?;
+        Ok(State {
+            alloc,
+            site,
+            skips: Skips {
+                muted: Vec::new(alloc),
+                lost: Vec::new(alloc),
+            },
+        })
+    }
+}
+
+// The strings of the empty version are held. Does nothing but look.
+fn holds_empty<H: Hash160 + Drop>(site: &Site<H>, script: &Script)
+    ensures { WorldStands NodeStands (ring_for H.naming script.now) (namings_for H.naming script.now) site.now.world [] → IsWithin script.now
+        → HoldsAll H.naming site.now.held (version_strings H.naming script.now.setup.block [] []) }
+{
+    ring_folds();
+    let _objects = site.world().committed().objects();
+}
+
+// With the label strings of events named.
+fn with_labels<H: Hash160 + Drop>(
+    alloc: Global,
+    site: Site<H>,
+    lines: &[(u32, Line)],
+) -> Result<Site<H>, NameFault>
+    ensures world { IfOk result (λ now. now.world ≡ site.world) }
+    ensures holds { IfOk result (λ now. (strings : List (List ℕ)) → HoldsJust H.naming site.held strings → HoldsJust H.naming now.held (strings ++ flat_map label_strings lines.now)) }
+    ensures fault { IfErr result (λ fault. (strings : List (List ℕ)) → HoldsJust H.naming site.held strings → IsClashOf H.naming (strings ++ flat_map label_strings lines.now) fault) }
+{
+    let mut named = site;
+    for (_, line) in lines {
+        named = with_label(alloc, named, line)?;
+    }
+    Ok(named)
+}
+
+fn with_label<H: Hash160 + Drop>(
+    alloc: Global,
+    site: Site<H>,
+    line: &Line,
+) -> Result<Site<H>, NameFault>
+    ensures world { IfOk result (λ now. now.world ≡ site.world) }
+    ensures holds { IfOk result (λ now. (number : ℕ) (strings : List (List ℕ)) → HoldsJust H.naming site.held strings → HoldsJust H.naming now.held (strings ++ label_strings (number, line.now))) }
+    ensures fault { IfErr result (λ fault. (number : ℕ) (strings : List (List ℕ)) → HoldsJust H.naming site.held strings → IsClashOf H.naming (strings ++ label_strings (number, line.now)) fault) }
+{
+    match line {
+        Line::Submit { label, .. } => with_label_named(alloc, site, label),
+        Line::Read { label, .. } => with_label_named(alloc, site, label),
+        Line::ShowVersion { label, .. } => with_label_named(alloc, site, label),
+        _ => Ok(site),
+    }
+}
+
+fn with_label_named<H: Hash160 + Drop>(
+    alloc: Global,
+    site: Site<H>,
+    label: &Label,
+) -> Result<Site<H>, NameFault>
+    ensures world { IfOk result (λ now. now.world ≡ site.world) }
+    ensures holds { IfOk result (λ now. (strings : List (List ℕ)) → HoldsJust H.naming site.held strings → HoldsJust H.naming now.held (strings ++ label_string label.now ∷ [])) }
+    ensures fault { IfErr result (λ fault. (strings : List (List ℕ)) → HoldsJust H.naming site.held strings → IsClashOf H.naming (strings ++ label_string label.now ∷ []) fault) }
+{
+    let string = write_label(alloc, label)?;
+    site.name(string.as_slice())
+}

@@ -1,0 +1,183 @@
+// Lines that are events of the world.
+ghost use Rattle.std.specs.Prelude.{◌≡◌, ◌+◌, ◌<◌, length, Contains, IfOk, IfErr};
+ghost use Rattle.block_names.specs.Growth.{Grew};
+ghost use Rattle.pond_node.specs.Standing.{NodeStands};
+ghost use Rattle.pond_world.specs.Sites.{IsClashAfter};
+ghost use Rattle.ring_world.specs.Worlds.{WorldStands, strings_of};
+ghost use Rattle.script_limits.specs.Limits.{IsWithin};
+ghost use Rattle.script_requests.specs.Holding.{HoldsAll, IsClashOf};
+ghost use Rattle.script_terms.specs.declared.line.Line.TheVariants.{Deliver, Resubmit, Settle};
+ghost use Rattle.text_model.specs.Events.{ring_for, world_of, events_of};
+ghost use Rattle.text_model.specs.Named.{named, committed_strings};
+ghost use Rattle.text_model.specs.Requests.{Numbered};
+ghost use Rattle.script_terms.specs.declared.script.Script.{Script};
+ghost use Rattle.std.specs.Prelude.{List, ℕ};
+ghost use Rattle.script_run.specs.States.{StandsFor, StandsNext, IsTurn, IsComing, IsQuiet, lines_before, namings_for};
+
+use crate::state::State;
+use block_names::{Hash160, NameFault};
+use fold_model::ring_folds;
+use pond_base::{ClientId, Party};
+use pond_world::{Site, events_may_come};
+use ring_world::Event;
+use script_events::{events_come_of_lines, setups_join, submits_are_requests};
+use script_limits::lines_fit_in_turn;
+use script_names::{deliveries_are_named, settled_joins, settles_are_named, skips_join};
+use script_terms::{Line, Script};
+
+impl<H: Hash160 + Drop> State<H> {
+    /// The state after the line at a place.
+    pub(crate) fn after(self, script: &Script, at: usize) -> Result<State<H>, NameFault>
+        requires within { IsWithin script.now }
+        requires here { at < length script.now.lines }
+        requires stands { StandsFor H.naming script.now (lines_before script.now at) self.site self.skips }
+        ensures stands { IfOk result (λ state. StandsNext H.naming script.now at state.site state.skips) }
+        ensures fault { IfErr result (IsClashOf H.naming (named H.naming script.now (lines_before script.now (at + 1)))) }
+    {
+        let (_, line) = &script.lines.as_slice()[at];
+        match line {
+            Line::Submit {
+                client,
+                label,
+                clauses,
+            } => self.submitted(script, at, *client, *label, clauses.as_slice()),
+            Line::Resubmit { client, number } => self.resubmitted(script, at, *client, *number),
+            Line::Deliver { from, to, place } => self.delivered(script, at, *from, *to, *place),
+            Line::Lose { from, to, place } => Ok(self.lost(script, at, *from, *to, *place)?),
+            Line::Settle => self.settled(script, at),
+            Line::Mute { party } => Ok(self.muted(script, at, *party)?),
+            Line::Unmute { party } => Ok(self.unmuted(script, at, *party)),
+            Line::ForgeOrder {
+                member,
+                to,
+                seq,
+                client,
+                number,
+            } => self.forged_order(script, at, *member, *to, *seq, *client, *number),
+            Line::ForgePrepare {
+                member,
+                to,
+                seq,
+                client,
+                number,
+            } => self.forged_prepare(script, at, *member, *to, *seq, *client, *number),
+            Line::ForgeCommit {
+                member,
+                to,
+                seq,
+                client,
+                number,
+            } => self.forged_commit(script, at, *member, *to, *seq, *client, *number),
+            Line::ForgeRaw { member, to, bytes } => self.forged_raw(
+                script, at, *member, *to, bytes,
+            ),
+            Line::Read { .. }
+            | Line::ShowMember { .. }
+            | Line::ShowVersion { .. }
+            | Line::ShowRecent => Ok(self),
+        }
+    }
+
+    // The client sends its request of a number again.
+    fn resubmitted(
+        self,
+        script: &Script,
+        at: usize,
+        client: ClientId,
+        number: u32,
+    ) -> Result<State<H>, NameFault>
+        requires { IsTurn H.naming script.now at (Resubmit client number) self.site self.skips }
+        ensures stands { IfOk result (λ state. StandsNext H.naming script.now at state.site state.skips) }
+        ensures fault { IfErr result (IsClashOf H.naming (named H.naming script.now (lines_before script.now (at + 1)))) }
+    {
+        self.sent(script, at, Event::Resubmit { client, number })
+    }
+
+    // An event that sends messages and names nothing.
+    pub(crate) fn sent(
+        self,
+        script: &Script,
+        at: usize,
+        event: Event,
+    ) -> Result<State<H>, NameFault>
+        requires coming { IsComing H.naming script.now at event self.site self.skips }
+        requires quiet { IsQuiet event }
+        ensures stands { IfOk result (λ state. StandsNext H.naming script.now at state.site state.skips) }
+        ensures fault { IfErr result (IsClashOf H.naming (named H.naming script.now (lines_before script.now (at + 1)))) }
+    {
+        let state = self.advanced(script, at, event)?;
+        Ok(state)
+    }
+
+    // The message at a place is delivered.
+    fn delivered(
+        self,
+        script: &Script,
+        at: usize,
+        from: Party,
+        to: Party,
+        place: u32,
+    ) -> Result<State<H>, NameFault>
+        requires { IsTurn H.naming script.now at (Deliver from to place) self.site self.skips }
+        ensures stands { IfOk result (λ state. StandsNext H.naming script.now at state.site state.skips) }
+        ensures fault { IfErr result (IsClashOf H.naming (named H.naming script.now (lines_before script.now (at + 1)))) }
+    {
+        lines_fit_in_turn();
+        setups_join();
+        submits_are_requests();
+        events_come_of_lines();
+        events_may_come();
+        deliveries_are_named();
+        self.site.world().submits_apart(self.site.book());
+        let state = self.advanced(script, at, Event::Deliver { from, to, place })?;
+        holds_committed(&state.site, script);
+        Ok(state)
+    }
+
+    // All that is pending and not passed over is delivered.
+    fn settled(self, script: &Script, at: usize) -> Result<State<H>, NameFault>
+        requires { IsTurn H.naming script.now at Settle self.site self.skips }
+        ensures stands { IfOk result (λ state. StandsNext H.naming script.now at state.site state.skips) }
+        ensures fault { IfErr result (IsClashOf H.naming (named H.naming script.now (lines_before script.now (at + 1)))) }
+    {
+        setups_join();
+        submits_are_requests();
+        skips_join();
+        settled_joins();
+        settles_are_named();
+        self.site.world().submits_apart(self.site.book());
+        let State { alloc, site, skips } = self;
+        let (site, _) = site.settle(&skips)?;
+        holds_committed(&site, script);
+        Ok(State { alloc, site, skips })
+    }
+
+    // The world after an event.
+    fn advanced(self, script: &Script, at: usize, event: Event) -> Result<State<H>, NameFault>
+        requires { IsComing H.naming script.now at event self.site self.skips }
+        ensures stands { IfOk result (λ state. WorldStands NodeStands (ring_for H.naming script.now) (namings_for H.naming script.now) state.site.world (events_of H.naming script.now (lines_before script.now (at + 1)))) }
+        ensures skips { IfOk result (λ state. state.skips ≡ self.skips) }
+        ensures grew { IfOk result (λ state. Grew H.naming self.site.held
+            (Contains (strings_of (ring_for H.naming script.now) (namings_for H.naming script.now) (world_of H.naming script.now (lines_before script.now at)) event)) state.site.held) }
+        ensures fault { IfErr result (IsClashAfter H.naming self.site.held
+            (Contains (strings_of (ring_for H.naming script.now) (namings_for H.naming script.now) (world_of H.naming script.now (lines_before script.now at)) event))) }
+    {
+        events_come_of_lines();
+        events_may_come();
+        setups_join();
+        lines_fit_in_turn();
+        let State { alloc, site, skips } = self;
+        site.world().may_step(&event);
+        let (site, _) = site.step(event)?;
+        Ok(State { alloc, site, skips })
+    }
+}
+
+// All strings of the versions that the committed list makes are held. Does nothing but look.
+fn holds_committed<H: Hash160 + Drop>(site: &Site<H>, script: &Script)
+    ensures { (lines : List Numbered) → WorldStands NodeStands (ring_for H.naming script.now) (namings_for H.naming script.now) site.now.world (events_of H.naming script.now lines)
+        → IsWithin script.now → HoldsAll H.naming site.now.held (committed_strings H.naming script.now lines) }
+{
+    ring_folds();
+    let _objects = site.world().committed().objects();
+}

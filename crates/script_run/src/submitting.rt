@@ -1,0 +1,59 @@
+// Submits.
+ghost use Rattle.std.specs.Prelude.{◌+◌, IfOk, IfErr};
+ghost use Rattle.script_requests.specs.Holding.{IsClashOf};
+ghost use Rattle.script_terms.specs.declared.line.Line.TheVariants.{Submit};
+ghost use Rattle.text_model.specs.Named.{named};
+ghost use Rattle.script_run.specs.States.{IsTurn, StandsNext, lines_before};
+
+use crate::state::State;
+use block_names::{Hash160, NameFault};
+use guarded_update::{Request, Update, write};
+use pond_base::{ClientId, Label};
+use pond_world::{Site, events_may_come, worlds_stay_known};
+use ring_world::Event;
+use script_events::{events_come_of_lines, setups_join, submits_are_requests};
+use script_limits::lines_fit_in_turn;
+use script_requests::clauses_of;
+use script_terms::{LineClause, Script};
+
+impl<H: Hash160 + Drop> State<H> {
+    /// A client sends its next request: the leaves of its guards are named, and its string.
+    pub(crate) fn submitted(
+        self,
+        script: &Script,
+        at: usize,
+        client: ClientId,
+        label: Label,
+        clauses: &[LineClause],
+    ) -> Result<State<H>, NameFault>
+        requires { IsTurn H.naming script.now at (Submit client label clauses.now) self.site self.skips }
+        ensures stands { IfOk result (λ state. StandsNext H.naming script.now at state.site state.skips) }
+        ensures fault { IfErr result (IsClashOf H.naming (named H.naming script.now (lines_before script.now (at + 1)))) }
+    {
+        lines_fit_in_turn();
+        setups_join();
+        submits_are_requests();
+        events_come_of_lines();
+        events_may_come();
+        worlds_stay_known();
+        let State { alloc, site, skips } = self;
+        let (mut book, world) = site.into_parts();
+        let clauses = clauses_of(alloc, &mut book, clauses)?;
+        let request = Request {
+            client,
+            number: world.submitted(client) + 1,
+            label,
+            update: Update { clauses },
+        };
+        // It has a spelling, which the world names.
+        write(alloc, &request)?;
+        let event = Event::Submit {
+            client,
+            label,
+            update: request.update,
+        };
+        world.may_step(&event);
+        let (site, _) = Site::of(book, world).step(event)?;
+        Ok(State { alloc, site, skips })
+    }
+}
