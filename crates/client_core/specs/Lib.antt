@@ -1,0 +1,5 @@
+pub mod Replies
+pub mod Naming
+pub mod Sending
+pub mod Clients
+pub mod Beliefs
