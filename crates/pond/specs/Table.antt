@@ -7,6 +7,7 @@ use Rattle.sha1.specs.Sha1.{sha1}
 use Rattle.script_terms.specs.declared.cause.Cause.{Cause}
 use Rattle.script_terms.specs.declared.script.Script.{Script}
 use Rattle.script_agreement.specs.OneList.{IsOneList}
+use Rattle.script_agreement.specs.Beliefs.{BeliefsAreTrue}
 use Rattle.script_grammar.specs.Script.{script_of}
 use Rattle.text_model.specs.Clashes.{NoClash, IsFirstClash}
 use Rattle.text_model.specs.Named.{named}
@@ -53,11 +54,11 @@ Fails seen = Rose seen.faults_before seen.faults_after
 abbrev pub IsSound : Seen → Type 0
 IsSound seen = seen.faults_after ≡ seen.faults_before
 
--- the sink took the whole text of the script that some bytes are, no two of whose strings clash, and whose members executed one list
+-- the sink took the whole text of the script that some bytes are, no two of whose strings clash, whose members executed one list, and what whose clients believed is so
 abbrev pub TakesText : Seen → List ℕ → Type 0
 TakesText sink bytes =
     (script : Script) × (script_of bytes ≡ Ok script) × Appends sink.before sink.after (text_of sha1 script) × NoClash sha1 (named sha1 script (reverse script.lines))
-    × IsOneList sha1 script (reverse script.lines)
+    × IsOneList sha1 script (reverse script.lines) × BeliefsAreTrue sha1 script (reverse script.lines)
 
 -- the sink took the whole text of a script that ends at a clash of two strings
 abbrev pub TakesUntilClash : Seen → ℕ → List ℕ → List ℕ → List ℕ → Type 0

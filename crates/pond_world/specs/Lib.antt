@@ -1,3 +1,4 @@
 pub mod Setups
 pub mod Sites
 pub mod Coming
+pub mod Beliefs

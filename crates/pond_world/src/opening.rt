@@ -44,7 +44,7 @@ pub fn open<H: Hash160 + Drop>(
     let Ok(faulty) = flags_of(alloc, setup) else {
         return Err(NameFault::Memory);
     };
-    match World::new(alloc, nodes, faulty, setup.clients) {
+    match World::new(alloc, nodes, faulty, setup.f, setup.clients) {
         Ok(world) => Ok(world),
         Err(OutOfMemory) => Err(NameFault::Memory),
     }

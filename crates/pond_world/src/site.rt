@@ -1,25 +1,36 @@
 // A world with its book of names.
-ghost use Rattle.std.specs.Prelude.{◌≡◌, ◌≢◌, ℕ, false, List, [], ◌∷◌, ◌++◌, Contains, IfOk, IfErr};
+ghost use Rattle.std.specs.Prelude.{◌≡◌, ◌≢◌, ◌==◌, ◌<◌, ℕ, false, List, [], ◌∷◌, ◌++◌, filter, length, Contains, IfOk, IfErr};
 ghost use Rattle.std.specs.FinMap as map;
 ghost use Rattle.block_names.specs.Faults.{step_fault};
 ghost use Rattle.block_names.specs.Growth.{keep_all, Grew};
 ghost use Rattle.block_names.specs.declared.fault.StepFault.TheVariants.{Ended};
 ghost use Rattle.object_model.specs.Trees.{version_strings};
+ghost use Rattle.ring_model.specs.Messages.{Ring, Client as by};
+ghost use Rattle.ring_model.specs.World as model;
 ghost use Rattle.ring_model.specs.World.{world};
+ghost use Rattle.ring_model.specs.Laws.{AllDelivered};
+ghost use Rattle.client_core.specs.Clients.{ClientStands};
 ghost use Rattle.fold_model.specs.Folds.{Manifest, namings_by};
 ghost use Rattle.pond_node.specs.Standing as node;
 ghost use Rattle.pond_node.specs.Standing.{NodeStands};
+ghost use Rattle.ring_node.specs.Naming.{Namings};
+ghost use Rattle.ring_world.specs.Beliefs.{AreAnswered};
 ghost use Rattle.ring_world.specs.Deliveries.{settled, named_along, IsNamedIn};
 ghost use Rattle.ring_world.specs.Settles.{Settles};
 ghost use Rattle.ring_world.specs.Skipping.{is_skipped};
 ghost use Rattle.ring_world.specs.Steps.{IsStep, said_of};
 ghost use Rattle.ring_world.specs.Worlds.{WorldStands, IsKnown, ForEvents, ForStep, event_of, strings_of};
+ghost use Rattle.pond_world.specs.Beliefs.{ForSetups, HeartsAreVersions, SealsAreManifests, RepliesAreOutcomes, HoldsTheLast};
 ghost use Rattle.pond_world.specs.Setups.{IsSetup, ring_by};
 ghost use Rattle.pond_world.specs.Sites.{IsClashAfter, WorldsStayKnown};
 
-use crate::opening::open;
+use crate::opening::{open, ring_is_sound};
+use belief_model::last_is_told;
 use block_names::{Book, Hash160, NameFault, StepFault};
+use client_core::Client;
+use fold_model::{heart_is_version, reply_is_outcome, seal_is_manifest};
 use guarded_update::Setup;
+use pond_base::{ClientId, Name};
 use pond_node::Node;
 use ring_world::{Event, Said, Skips, World};
 use std::alloc::Global;
@@ -103,16 +114,17 @@ impl<H: Hash160 + Drop> Site<H> {
         }
     }
 
-    /// The site after a string was named.
-    pub fn name(self, bytes: &[u8]) -> Result<Site<H>, NameFault>
-        ensures world { IfOk result (λ site. site.world ≡ self.world) }
-        ensures held { IfOk result (λ site. site.held ≡ map.insert self.held (H.naming bytes.now) bytes.now) }
-        ensures grew { IfOk result (λ site. Grew H.naming self.held (λ string. string ≡ bytes.now) site.held) }
+    /// The site after a string was named, and the name.
+    pub fn name(self, bytes: &[u8]) -> Result<(Site<H>, Name), NameFault>
+        ensures name { IfOk result (λ done. done.1 ≡ H.naming bytes.now) }
+        ensures world { IfOk result (λ done. done.0.world ≡ self.world) }
+        ensures held { IfOk result (λ done. done.0.held ≡ map.insert self.held (H.naming bytes.now) bytes.now) }
+        ensures grew { IfOk result (λ done. Grew H.naming self.held (λ string. string ≡ bytes.now) done.0.held) }
         ensures fault { IfErr result (IsClashAfter H.naming self.held (λ string. string ≡ bytes.now)) }
     {
         let Site { mut book, world } = self;
         match book.name(bytes) {
-            Ok(_) => Ok(Site { book, world }),
+            Ok(name) => Ok((Site { book, world }, name)),
             Err(fault) => Err(fault),
         }
     }
@@ -146,6 +158,28 @@ impl<H: Hash160 + Drop> Site<H> {
         ensures known { IsKnown node.IsKnown H.naming self.now.held result.now }
     {
         &self.world
+    }
+
+    /// A client of the world. What it believes of versions and of its requests is so in the fold of the
+    /// committed list, and once all was delivered and member 0 is correct it believes an outcome of each
+    /// of its requests and holds the heart of each last version. Takes no memory.
+    pub fn client(&self, client: ClientId) -> &Client
+        requires { client.0 < length self.now.world.clients.items }
+        ensures stands { (g : Ring) (namings : Namings) (events : List model.Event) → WorldStands NodeStands g namings self.now.world events
+            → ClientStands result.now g client.0 (filter (λ r. g.owner r == client.0) (world g events).submits) ((world g events).got (by client.0)) }
+        ensures hearts { ForSetups H.naming self.now.world (λ block manifest g events. HeartsAreVersions H.naming block g events client.0) }
+        ensures seals { ForSetups H.naming self.now.world (λ block manifest g events. SealsAreManifests H.naming block manifest g events client.0) }
+        ensures replies { ForSetups H.naming self.now.world (λ block manifest g events. RepliesAreOutcomes H.naming block g events client.0) }
+        ensures answered { ForSetups H.naming self.now.world (λ block manifest g events. g.is_faulty 0 ≡ false → AllDelivered g (world g events) → AreAnswered g events client.0) }
+        ensures told { ForSetups H.naming self.now.world (λ block manifest g events. g.is_faulty 0 ≡ false → AllDelivered g (world g events) → HoldsTheLast H.naming block g events client.0) }
+    {
+        ring_is_sound();
+        heart_is_version();
+        seal_is_manifest();
+        reply_is_outcome();
+        last_is_told();
+        self.world.submits_apart(&self.book);
+        self.world.client(client)
     }
 
     /// The book. Takes no memory.

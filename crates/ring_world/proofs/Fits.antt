@@ -1,6 +1,5 @@
 -- What a step asks of a world's values follows from the events so far.
-use Rattle.std.proofs.Common.{◌≡◌, ℕ, ◌<◌, ◌==◌, List, Vec, length, count_by, get_or, min, arith}
-use Rattle.std.specs.declared.alloc.Global.{Global}
+use Rattle.std.proofs.Common.{◌≡◌, ℕ, ◌<◌, ◌==◌, List, length, count_by, get_or, arith}
 use Rattle.std.proofs.lemmas.List.Sums.{length-filter}
 use Rattle.ring_model.specs.Messages.{Ring, Member as member}
 use Rattle.ring_model.specs.World as model
@@ -16,21 +15,19 @@ use Rattle.ring_world.specs.Standing.{Standing}
 use Rattle.ring_world.specs.Conditions.{MayStep}
 use Rattle.ring_world.specs.Steps.{IsStep, IsClient}
 use Rattle.ring_world.specs.Worlds.{WorldStands}
-use Rattle.ring_world.specs.declared.asked.Asked.{Asked}
-use Rattle.ring_world.proofs.Order.{few_submits}
 use Rattle.ring_world.proofs.Requests.{numbered_next}
 use Rattle.ring_world.proofs.Stepping.{party_seat}
 
 -- a declared client is one of the world
 declared_client : {N : Type 0} (stands : Standing N) (g : Ring) (namings : Namings) (w : World N) (events : List model.Event) (c : ℕ) → WorldStands stands g namings w events → c < g.clients → IsClient w c
-declared_client stands g namings w events c s low = (omega (arith, low, s.is.small.few_clients), omega (arith, low, s.is.askers))
+declared_client stands g namings w events c s low = (omega (arith, low, s.is.small.few_clients), omega (arith, low, s.is.client_count))
 
 pub step_fits : {N : Type 0} (stands : Standing N) (g : Ring) (namings : Namings) (w : World N) (events : List model.Event) (e : Event) → WorldStands stands g namings w events → MayStep g (world g events) e → IsStep w e
 step_fits stands g namings w events (Submit c label update) s may =
     let known = declared_client stands g namings w events c.0 s may.0 in (
       known,
       λ d.
-          let size : length (get_or w.requests.items c.0 d).items ≡ count_by (λ r. g.owner r == c.0) (world g events).submits = numbered_next stands g namings w (world g events) (deliveries g events) c.0 d known.1 s.is in
+          let size : length (get_or w.clients.items c.0 d).requests.items ≡ count_by (λ r. g.owner r == c.0) (world g events).submits = numbered_next stands g namings w (world g events) (deliveries g events) c.0 d known.1 s.is in
           let all = length-filter (λ r. g.owner r == c.0) (world g events).submits in
           let short = filter-short (λ r. g.owner r == c.0) (world g events).submits in
           omega (arith, size, all, short, may.1),
@@ -41,18 +38,8 @@ step_fits stands g namings w events (Resubmit c n) s may =
       known,
       may.1,
       λ d.
-          let size : length (get_or w.requests.items c.0 d).items ≡ count_by (λ r. g.owner r == c.0) (world g events).submits = numbered_next stands g namings w (world g events) (deliveries g events) c.0 d known.1 s.is in
+          let size : length (get_or w.clients.items c.0 d).requests.items ≡ count_by (λ r. g.owner r == c.0) (world g events).submits = numbered_next stands g namings w (world g events) (deliveries g events) c.0 d known.1 s.is in
           omega (arith, size, may.2),
     )
 step_fits stands g namings w events (Deliver p q k) s may = may
 step_fits stands g namings w events (Forge i q bytes) s may = (party_seat g (member i.0) s.is.small may.0, party_seat g (who q) s.is.small may.1)
-
--- the requests that are kept of a client are all that it submitted
-pub all_counted : {N : Type 0} (stands : Standing N) (g : Ring) (namings : Namings) (w : World N) (events : List model.Event) (c : ℕ) (d : Vec Asked Global) → WorldStands stands g namings w events → c < g.clients
-    → min (length (get_or w.requests.items c d).items) 65536 ≡ count_by (λ r. g.owner r == c) (world g events).submits
-all_counted stands g namings w events c d s low =
-    let size : length (get_or w.requests.items c d).items ≡ count_by (λ r. g.owner r == c) (world g events).submits = numbered_next stands g namings w (world g events) (deliveries g events) c d (omega (arith, low, s.is.askers)) s.is in
-    let all = length-filter (λ r. g.owner r == c) (world g events).submits in
-    let short = filter-short (λ r. g.owner r == c) (world g events).submits in
-    let few = few_submits g events s.legal in
-    omega (arith, size, all, short, few, s.is.small.slots)

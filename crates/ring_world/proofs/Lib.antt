@@ -8,3 +8,4 @@ pub mod Order
 pub mod Requests
 pub mod Settling
 pub mod Stepping
+pub mod Telling

@@ -1,6 +1,5 @@
 -- One message handed to one party.
-use Rattle.std.proofs.Common.{◌≡◌, ◌&&◌, ℕ, zero, suc, ◌+◌, ◌-◌, ◌<◌, ◌≤◌, min, List, [], ◌∷◌, ◌++◌, length, map, take, drop, slice_get, get_or, Some, None, ⊎_elim, sym, ap, ap₂, ◌∙◌, subst, arith, append-nil, append_assoc, length-append, length-drop}
-use Rattle.std.specs.List.{range_with_len}
+use Rattle.std.proofs.Common.{◌≡◌, ◌&&◌, ℕ, ◌+◌, ◌-◌, ◌<◌, ◌≤◌, min, List, [], ◌∷◌, ◌++◌, length, map, take, drop, slice_get, get_or, Some, None, ⊎_elim, sym, ap, ap₂, ◌∙◌, subst, arith, append-nil, append_assoc, length-append, length-drop}
 use Rattle.std.proofs.lemmas.Bool.{cases_lt}
 use Rattle.std.proofs.lemmas.List.{take_more, drop-append-le, drop-drop, drop-map, map-append, length-map}
 use Rattle.std.proofs.lemmas.Option.{slice_get_within}
@@ -20,7 +19,7 @@ use Rattle.ring_world.specs.declared.state.World.{World}
 use Rattle.ring_world.specs.Standing.{Standing}
 use Rattle.ring_world.specs.Crew.{AreMembers, with_letter, owed_for}
 use Rattle.ring_world.specs.Skipping.{Told, told, counted}
-use Rattle.ring_world.specs.Worlds.{IsSmall, IsWorld, asks_of}
+use Rattle.ring_world.specs.Worlds.{IsSmall, IsWorld}
 
 -- ---- posting
 
@@ -28,29 +27,6 @@ pub posted_more : {X : Type 0} (f : X → Sent) (sent : List Sent) (xs : List X)
 posted_more f sent xs i x low is =
     append_assoc sent (map f (take i xs)) (f x ∷ [])
     ∙ ap (λ ys. sent ++ ys) (sym (ap (map f) (take_more xs i x low) ∙ map-append f (take i xs) (get_or xs i x ∷ []) ∙ ap (λ y. map f (take i xs) ++ f y ∷ []) (sym is)))
-
-range_more : (a n : ℕ) → range_with_len a (suc n) ≡ range_with_len a n ++ (a + n) ∷ []
-range_more a zero = ap (λ k. k ∷ []) here
-  where
-    here : a ≡ a + 0
-    here = omega arith
-range_more a (suc n) = ap (λ xs. a ∷ xs) (range_more (a + 1) n ∙ ap (λ k. range_with_len (a + 1) n ++ k ∷ []) next)
-  where
-    next : a + 1 + n ≡ a + suc n
-    next = omega arith
-
--- a client's message to one member more
-pub asked_more : (sent : List Sent) (j c : ℕ) (bytes : List ℕ) → (sent ++ asks_of j c bytes) ++ packet_of (client c) (member j) bytes ∷ [] ≡ sent ++ asks_of (j + 1) c bytes
-asked_more sent j c bytes =
-    append_assoc sent (asks_of j c bytes) (packet_of (client c) (member j) bytes ∷ [])
-    ∙ ap (λ ys. sent ++ ys)
-    (sym (ap (λ n. asks_of n c bytes) next ∙ ap (map (λ j. packet_of (client c) (member j) bytes)) (range_more 0 j) ∙ map-append (λ j. packet_of (client c) (member j) bytes) (range_with_len 0 j) ((0 + j) ∷ []) ∙ ap (λ k. asks_of j c bytes ++ packet_of (client c) (member k) bytes ∷ []) zeroed))
-  where
-    next : j + 1 ≡ suc j
-    next = omega arith
-
-    zeroed : 0 + j ≡ j
-    zeroed = omega arith
 
 -- ---- a member's turn
 
@@ -65,23 +41,8 @@ handed stands g namings w v done from i bytes m mail are posted h =
       small = h.small;
       mail_is = posted;
       members_are = are;
-      askers = h.askers;
-      requests_are = h.requests_are;
-      recent_is = h.recent_is;
-      eight = h.eight;
-      going = h.going;
-    }
-
--- a client was handed a letter, which sends nothing
-pub told_client : {N : Type 0} (stands : Standing N) (g : Ring) (namings : Namings) (w : World N) (v : Model) (done : List Place) (from : Who) (c : ℕ) (bytes : List ℕ)
-    → IsWorld stands g namings w v done → IsWorld stands g namings w (came g v (Some (packet_of from (client c) bytes))) done
-told_client stands g namings w v done from c bytes h =
-    record {
-      small = h.small;
-      mail_is = subst (λ xs. IsMail w.mail xs done) (sym (append-nil v.sent)) h.mail_is;
-      members_are = record { count = h.members_are.count; faulty_are = h.members_are.faulty_are; nodes_stand = h.members_are.nodes_stand };
-      askers = h.askers;
-      requests_are = h.requests_are;
+      client_count = h.client_count;
+      clients_stand = h.clients_stand;
       recent_is = h.recent_is;
       eight = h.eight;
       going = h.going;
@@ -146,8 +107,8 @@ marked_world stands g namings w v done a t mail recent posted is same h =
       small = h.small;
       mail_is = posted;
       members_are = h.members_are;
-      askers = h.askers;
-      requests_are = h.requests_are;
+      client_count = h.client_count;
+      clients_stand = h.clients_stand;
       recent_is = noted_last w.recent.items recent.items t a done (ap (λ (b : Buffer Told). b.items) is ∙ ap (λ k. keep_last k (w.recent.items ++ t ∷ [])) h.eight) same h.recent_is;
       eight = ap (λ (b : Buffer Told). b.capacity) is ∙ h.eight;
       going = h.going;
@@ -161,8 +122,8 @@ same_mail stands g namings w v done mail posted h =
       small = h.small;
       mail_is = posted;
       members_are = h.members_are;
-      askers = h.askers;
-      requests_are = h.requests_are;
+      client_count = h.client_count;
+      clients_stand = h.clients_stand;
       recent_is = h.recent_is;
       eight = h.eight;
       going = h.going;

@@ -1,10 +1,16 @@
 -- What was delivered, what is pending, and the deliveries of a settle.
 use Rattle.std.specs.Prelude.{ℕ, zero, suc, ◌<◌, ◌^◌, Bool, not, ◌&&◌, List, [], ◌∷◌, ◌++◌, find, slice_get, Option, Some, None, Contains}
-use Rattle.ring_model.specs.Messages.{Ring, Packet}
+use Rattle.ring_message.specs.declared.message.Out.{Out}
+use Rattle.ring_model.specs.Messages.{Ring, Party, Packet}
 use Rattle.ring_model.specs.World.{World, Event, Deliver, world, between}
+use Rattle.message_model.specs.Meaning.{who, meaning}
 use Rattle.ring_node.specs.Naming.{Namings}
 use Rattle.ring_mail.specs.Places.{Place, places, is_done, delivery}
 use Rattle.ring_world.specs.Crew.{named_for}
+
+-- bytes that a party sends
+abbrev pub packet_from : Party → Out → Packet
+packet_from from out = record { from = from; to = who out.to; message = meaning out.bytes }
 
 abbrev pub delivered_by : List Packet → Event → List Place
 delivered_by sent (Deliver p q k) = delivery sent (record { from = p; to = q; place = k })

@@ -1,9 +1,9 @@
+pub mod Beliefs
 pub mod Bests
 pub mod Bound
 pub mod Conditions
 pub mod Crew
 pub mod Deliveries
-pub mod Named
 pub mod Settles
 pub mod Skipping
 pub mod Standing

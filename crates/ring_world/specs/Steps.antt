@@ -1,6 +1,5 @@
 -- What a step asks and answers.
-use Rattle.std.specs.Prelude.{◌≡◌, ◌≢◌, ℕ, ◌+◌, ◌-◌, ◌<◌, ◌≤◌, List, length, slice_index_or, slice_get, Vec, Bool, true, false, cond, is_some, Some, filter, ◌==◌, Result, Ok, Err, IsTrue}
-use Rattle.std.specs.declared.alloc.Global.{Global}
+use Rattle.std.specs.Prelude.{◌≡◌, ◌≢◌, ℕ, ◌+◌, ◌-◌, ◌<◌, ◌≤◌, List, length, slice_index_or, slice_get, Bool, true, false, cond, is_some, Some, filter, ◌==◌, Result, Ok, Err, IsTrue}
 use Rattle.std.specs.FinMap as map
 use Rattle.block_names.specs.Held.{Held}
 use Rattle.block_names.specs.declared.fault.StepFault.{StepFault}
@@ -11,7 +10,7 @@ use Rattle.ring_model.specs.World as model
 use Rattle.ring_model.specs.World.{World as Model, between, happens}
 use Rattle.message_model.specs.Meaning.{who}
 use Rattle.ring_mail.specs.Seats.{IsSeat}
-use Rattle.ring_world.specs.declared.asked.Asked.{Asked}
+use Rattle.client_core.specs.declared.client.Client.{Client}
 use Rattle.ring_world.specs.declared.state.World.{World}
 use Rattle.ring_world.specs.declared.event.Event.{Event}
 use Rattle.ring_world.specs.declared.event.Event.TheVariants.{Submit, Resubmit, Deliver, Forge}
@@ -20,12 +19,12 @@ use Rattle.ring_world.specs.declared.said.Said.TheVariants.{Nothing, Sent}
 
 -- a client of the world
 abbrev pub IsClient : {N : Type 0} → World N → ℕ → Type 0
-IsClient w c = (c < 16) × (c < length w.requests.items)
+IsClient w c = (c < 16) × (c < length w.clients.items)
 
 -- an update is within the limits and its client has a number left, a resubmitted number was submitted, places count from 1, and parties have seats
 abbrev pub IsStep : {N : Type 0} → World N → Event → Type 0
-IsStep w (Submit c label update) = IsClient w c.0 × ((d : Vec Asked Global) → length (slice_index_or w.requests.items c.0 d).items < 65536) × IsTrue (update_fits update)
-IsStep w (Resubmit c n) = IsClient w c.0 × (0 < n) × ((d : Vec Asked Global) → n ≤ length (slice_index_or w.requests.items c.0 d).items)
+IsStep w (Submit c label update) = IsClient w c.0 × ((d : Client) → length (slice_index_or w.clients.items c.0 d).requests.items < 65536) × IsTrue (update_fits update)
+IsStep w (Resubmit c n) = IsClient w c.0 × (0 < n) × ((d : Client) → n ≤ length (slice_index_or w.clients.items c.0 d).requests.items)
 IsStep w (Deliver p q k) = 0 < k
 IsStep w (Forge i q bytes) = IsSeat (member i.0) × IsSeat (who q)
 

@@ -1,7 +1,6 @@
--- A world of nodes, and the events that it stands for.
-use Rattle.std.specs.Prelude.{◌≡◌, ℕ, ◌+◌, ◌-◌, ◌*◌, ◌<◌, ◌≤◌, Bool, false, ◌==◌, List, [], ◌∷◌, map, filter, length, count_by, slice_get, slice_index_or, Vec}
-use Rattle.std.specs.List.{AllByRecursion, range_with_len}
-use Rattle.std.specs.declared.alloc.Global.{Global}
+-- A world of nodes and clients, and the events that it stands for.
+use Rattle.std.specs.Prelude.{◌≡◌, ℕ, ◌+◌, ◌-◌, ◌*◌, ◌<◌, ◌≤◌, Bool, false, ◌==◌, List, [], ◌∷◌, map, filter, length, count_by, slice_get, slice_index_or}
+use Rattle.std.specs.List.{AllByRecursion}
 use Rattle.circular_buffer.specs.Buffer.{keep_last}
 use Rattle.block_names.specs.Held.{Held}
 use Rattle.block_names.specs.Growth.{Holds}
@@ -9,15 +8,16 @@ use Rattle.guarded_update.specs.declared.request.Request.{Request as Asking}
 use Rattle.guarded_update.specs.declared.update.Update.{Update}
 use Rattle.guarded_update.specs.Spelling.{request_string}
 use Rattle.tree_format.specs.Strings.{label_string}
-use Rattle.ring_model.specs.Messages.{Ring, Request, Packet, Member as member, Client as client}
+use Rattle.ring_model.specs.Messages.{Ring, Client as client}
 use Rattle.ring_model.specs.World as model
 use Rattle.ring_model.specs.World.{World as Model, world, IsLegal, MayHappen, between}
 use Rattle.message_model.specs.Meaning.{who, meaning}
 use Rattle.message_model.specs.Reading.{IsRingOf}
+use Rattle.client_core.specs.declared.client.Client.{Client}
+use Rattle.client_core.specs.Clients.{ClientStands, texts_of}
 use Rattle.ring_node.specs.Naming.{Namings}
-use Rattle.ring_mail.specs.Places.{Place, packet_of}
+use Rattle.ring_mail.specs.Places.{Place}
 use Rattle.ring_mail.specs.Mails.{IsMail}
-use Rattle.ring_world.specs.declared.asked.Asked.{Asked}
 use Rattle.ring_world.specs.declared.event.Event.{Event}
 use Rattle.ring_world.specs.declared.event.Event.TheVariants.{Submit, Resubmit, Deliver, Forge}
 use Rattle.ring_world.specs.declared.state.World.{World}
@@ -32,18 +32,13 @@ pub record IsSmall (g : Ring) : Type 0 where
   pub few_clients : g.clients ≤ 16
   pub slots : g.slots ≡ 65536
 
--- these are the strings of the requests, and each message means its request
-pub record AreAsked (asked : List Asked) (texts : List (List ℕ)) : Type 0 where
-  pub texts_are : map (λ (a : Asked). a.text) asked ≡ texts
-  pub mean : AllByRecursion (λ (a : Asked). meaning a.message ≡ Request a.text) asked
-
 -- what is kept is this world of the model, with these deliveries
 pub record IsWorld {N : Type 0} (stands : Standing N) (g : Ring) (namings : Namings) (w : World N) (v : Model) (done : List Place) : Type 0 where
   pub small : IsSmall g
   pub mail_is : IsMail w.mail v.sent done
   pub members_are : AreMembers stands g namings w.members v.got
-  pub askers : length w.requests.items ≡ g.clients
-  pub requests_are : (c : ℕ) (d : Vec Asked Global) → c < g.clients → AreAsked (slice_index_or w.requests.items c d).items (filter (λ r. g.owner r == c) v.submits)
+  pub client_count : length w.clients.items ≡ g.clients
+  pub clients_stand : (c : ℕ) (d : Client) → c < g.clients → ClientStands (slice_index_or w.clients.items c d) g c (filter (λ r. g.owner r == c) v.submits) (v.got (client c))
   pub recent_is : map told w.recent.items ≡ map counted (keep_last 8 done)
   pub eight : w.recent.capacity ≡ 8
   pub going : w.ended ≡ false
@@ -56,7 +51,7 @@ pub record WorldStands {N : Type 0} (stands : Standing N) (g : Ring) (namings : 
 -- what is held has all that the world named: what its nodes named, and each submitted request
 pub record IsKnown {N : Type 0} (knows : Knowing N) (h : List ℕ → List ℕ) (held : Held) (w : World N) : Type 0 where
   pub nodes : NodesKnown knows h held w.members
-  pub requests : (c : ℕ) (d : Vec Asked Global) → c < length w.requests.items → AllByRecursion (λ (a : Asked). Holds h held a.text) (slice_index_or w.requests.items c d).items
+  pub requests : (c : ℕ) (d : Client) → c < length w.clients.items → AllByRecursion (Holds h held) (texts_of (slice_index_or w.clients.items c d))
 
 -- the client's next request, of this label and update
 abbrev pub next_request : Ring → Model → ℕ → List ℕ → Update → Asking
@@ -75,10 +70,6 @@ strings_of g namings v (Submit c label update) = label_string label ∷ request_
 strings_of g namings v (Resubmit c n) = []
 strings_of g namings v (Deliver p q k) = named_of g namings v (slice_get (between (who p) (who q) v.sent) (k - 1))
 strings_of g namings v (Forge i q bytes) = []
-
--- a client's message to each of n members
-abbrev pub asks_of : ℕ → ℕ → List ℕ → List Packet
-asks_of n c bytes = map (λ j. packet_of (client c) (member j) bytes) (range_with_len 0 n)
 
 -- whatever world of the model is kept, a fact holds of it
 abbrev pub ForWorld : {N : Type 0} → Standing N → (List ℕ → List ℕ) → World N → (Ring → Namings → Model → List Place → Type 0) → Type 0

@@ -1,13 +1,12 @@
 // What a step asks of a world.
-ghost use Rattle.std.specs.Prelude.{◌≡◌, ℕ, List, IsTrue, IfSome, None, length, slice_index_or, Vec, false};
-ghost use Rattle.std.specs.declared.alloc.Global.{Global};
+ghost use Rattle.std.specs.Prelude.{◌≡◌, ℕ, List, IsTrue, IfSome, None, length, slice_index_or, false};
 ghost use Rattle.ring_model.specs.Messages.{Ring};
 ghost use Rattle.ring_model.specs.World as model;
 ghost use Rattle.ring_model.specs.World.{world};
 ghost use Rattle.message_model.specs.Meaning.{who};
 ghost use Rattle.ring_mail.specs.Seats.{IsSeat};
+ghost use Rattle.client_core.specs.declared.client.Client.{Client};
 ghost use Rattle.ring_node.specs.Naming.{Namings};
-ghost use Rattle.ring_world.specs.declared.asked.Asked.{Asked};
 ghost use Rattle.ring_world.specs.Conditions.{MayStep};
 ghost use Rattle.ring_world.specs.Steps.{IsStep, IsClient};
 ghost use Rattle.ring_world.specs.Worlds.{WorldStands};
@@ -37,7 +36,7 @@ impl<N: Node> World<N> {
                 None => false,
             },
             Event::Resubmit { client, number } => match self.asked(*client) {
-                Some(count) => *number > 0 && *number as usize <= count,
+                Some(count) => *number > 0 && *number <= count,
                 None => false,
             },
             Event::Deliver { place, .. } => *place > 0,
@@ -46,15 +45,15 @@ impl<N: Node> World<N> {
     }
 
     // How many requests a client submitted, if it is one of the world.
-    fn asked(&self, client: ClientId) -> Option<usize>
-        ensures some { IfSome result (λ count. IsClient self.now client.0 × ((d : Vec Asked Global) → length (slice_index_or self.now.requests.items client.0 d).items ≡ count)) }
+    fn asked(&self, client: ClientId) -> Option<u32>
+        ensures some { IfSome result (λ count. IsClient self.now client.0 × ((d : Client) → length (slice_index_or self.now.clients.items client.0 d).requests.items ≡ count)) }
         ensures none { result ≡ None → IsClient self.now client.0 → ⊥ }
     {
         if client.0 >= 16 {
             return None;
         }
-        match self.requests.get(client.0 as usize) {
-            Some(asked) => Some(asked.len()),
+        match self.clients.get(client.0 as usize) {
+            Some(client) => Some(client.submitted()),
             None => None,
         }
     }

@@ -6,7 +6,7 @@ ghost use Rattle.ring_model.specs.Messages.{Member as member};
 ghost use Rattle.message_model.specs.Meaning.{who, letter, packet};
 ghost use Rattle.ring_mail.specs.Seats.{IsSeat};
 ghost use Rattle.ring_world.specs.Crew.{AreMembers, NodesKnown, ForLetter, with_letter, owed_for, named_for};
-ghost use Rattle.ring_world.specs.Named.{Names};
+ghost use Rattle.client_core.specs.Naming.{Names};
 
 use crate::members::Members;
 use block_names::{Book, Hash160, NameFault};

@@ -1,15 +1,15 @@
 // Deliveries.
-ghost use Rattle.std.specs.Prelude.{◌≡◌, ◌+◌, ◌<◌, List, ◌++◌, map, min, slice_get, OnOk, IfOk, is_some, Some};
+ghost use Rattle.std.specs.Prelude.{◌≡◌, ◌+◌, List, ◌++◌, map, min, slice_get, OnOk, IfOk, is_some, Some};
 ghost use Rattle.std.specs.List.{AllByRecursion};
 ghost use Rattle.cow_tree.specs.Laws.{Keeps};
 ghost use Rattle.ring_model.specs.Messages.{Packet, Member as member};
 ghost use Rattle.ring_model.specs.World.{between, IsParty, came};
-ghost use Rattle.message_model.specs.Meaning.{who, packet};
+ghost use Rattle.message_model.specs.Meaning.{who};
 ghost use Rattle.ring_mail.specs.Seats.{IsSeat};
 ghost use Rattle.ring_mail.specs.Places.{Place, delivery, place_of, packet_of};
 ghost use Rattle.ring_mail.specs.Mails.{IsMail};
-ghost use Rattle.ring_world.specs.Deliveries.{named_of};
-ghost use Rattle.ring_world.specs.Named.{Names};
+ghost use Rattle.client_core.specs.Naming.{Names};
+ghost use Rattle.ring_world.specs.Deliveries.{named_of, packet_from};
 ghost use Rattle.ring_world.specs.Worlds.{IsWorld, IsKnown, ForWorld};
 
 use crate::state::World;
@@ -20,14 +20,14 @@ use ring_mail::{Mail, Note};
 use ring_message::Out;
 use ring_node::Node;
 
-// Sends what a member answers.
-fn post(mail: &mut Mail, from: MemberId, out: &[Out]) -> Result<(), OutOfMemory>
-    requires low { from.0 < 10 }
+// Sends a party's messages.
+pub(crate) fn post(mail: &mut Mail, from: Party, out: &[Out]) -> Result<(), OutOfMemory>
+    requires seat { IsSeat (who from) }
     requires seats { AllByRecursion (λ o. IsSeat (who o.to)) out.now }
-    ensures { OnOk result ((sent : List Packet) (done : List Place) → IsMail mail.old sent done → IsMail mail.new (sent ++ map (packet from.0) out.now) done) }
+    ensures { OnOk result ((sent : List Packet) (done : List Place) → IsMail mail.old sent done → IsMail mail.new (sent ++ map (packet_from (who from)) out.now) done) }
 {
     for one in out {
-        mail.push(Party::Member(from), one.to, one.bytes.clone()?)?;
+        mail.push(from, one.to, one.bytes.clone()?)?;
     }
     Ok(())
 }
@@ -90,7 +90,10 @@ impl<N: Node> World<N> {
                 self.hand(book, from, i, bytes)?;
                 Ok(())
             }
-            Party::Client(_) => Ok(()),
+            Party::Client(c) => {
+                self.tell(c, from, bytes)?;
+                Ok(())
+            }
         }
     }
 
@@ -115,7 +118,7 @@ impl<N: Node> World<N> {
             return Ok(());
         }
         let out = self.members.take(self.alloc, book, to, from, bytes)?;
-        post(&mut self.mail, to, &out)?;
+        post(&mut self.mail, Party::Member(to), &out)?;
         Ok(())
     }
 }

@@ -61,14 +61,8 @@ impl<N: Node> World<N> {
         ensures found { (g : Ring) (namings : Namings) (events : List model.Event) → WorldStands N.stands g namings self.now events → client.0 < g.clients → 0 < number
             → option_copied result ≡ slice_get (filter (λ r. g.owner r == client.0) (world g events).submits) (number - 1) }
     {
-        if number == 0 {
-            return None;
-        }
-        let asked = self.requests.get(client.0 as usize)?;
-        match asked.get(number as usize - 1) {
-            Some(one) => Some(&one.text),
-            None => None,
-        }
+        let client = self.clients.get(client.0 as usize)?;
+        client.request(number)
     }
 
     /// How many requests a client has submitted. Takes no memory.
@@ -76,8 +70,8 @@ impl<N: Node> World<N> {
         ensures { (g : Ring) (namings : Namings) (events : List model.Event) → WorldStands N.stands g namings self.now events → client.0 < g.clients
             → result ≡ count_by (λ r. g.owner r == client.0) (world g events).submits }
     {
-        match self.requests.get(client.0 as usize) {
-            Some(asked) => asked.len().min(65_536) as u32,
+        match self.clients.get(client.0 as usize) {
+            Some(client) => client.submitted(),
             None => 0,
         }
     }

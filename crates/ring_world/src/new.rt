@@ -1,39 +1,43 @@
 // A world's start.
-ghost use Rattle.std.specs.Prelude.{◌≡◌, ◌<◌, ◌≤◌, ℕ, List, [], IfOk, length, false, slice_index_or};
+ghost use Rattle.std.specs.Prelude.{◌≡◌, ◌<◌, ◌≤◌, ◌+◌, ◌*◌, ℕ, List, [], IfOk, length, false, slice_index_or};
 ghost use Rattle.std.specs.List.{list_all};
 ghost use Rattle.block_names.specs.Held.{Held};
 ghost use Rattle.ring_model.specs.Messages.{Ring};
 ghost use Rattle.ring_node.specs.Naming.{Namings};
+ghost use Rattle.client_core.specs.declared.client.Client.{Client};
+ghost use Rattle.client_core.specs.Clients.{ClientStands};
 ghost use Rattle.ring_world.specs.Worlds.{IsStart, IsKnown, WorldStands};
 
 use crate::crew::first_correct;
 use crate::members::Members;
 use crate::state::World;
 use circular_buffer::HeapCircularBuffer;
-use pond_base::OutOfMemory;
+use client_core::Client;
+use pond_base::{ClientId, OutOfMemory};
 use ring_mail::Mail;
 use ring_node::Node;
 use std::alloc::Global;
 
 impl<N: Node> World<N> {
     /// The world of these nodes before any event. There is a node for each member, of a faulty one too,
-    /// which is never asked; `faulty` says which members are faulty, and some member is correct.
+    /// which is never asked; `faulty` says which members are faulty, and some member is correct. At most f
+    /// of the 3f + 1 members are to be faulty, as the clients believe what f + 1 members say.
     pub fn new(
         alloc: Global,
         nodes: Vec<N>,
         faulty: Vec<bool>,
+        f: u8,
         clients: u8,
     ) -> Result<World<N>, OutOfMemory>
+        requires few { (f ≤ 3) × (clients ≤ 16) }
+        requires count { length nodes.items ≡ 3 * f + 1 }
         requires flags { length nodes.items ≡ length faulty.items }
         requires correct { list_all (λ b. b) faulty.items ≡ false }
         ensures stands { IfOk result (λ world. (g : Ring) (namings : Namings) → IsStart N.stands g namings nodes.items faulty.items clients → WorldStands N.stands g namings world []) }
         ensures known { IfOk result (λ world. (h : List ℕ → List ℕ) (held : Held) → ((i : ℕ) (d : N) → i < length nodes.items → N.knows h held (slice_index_or nodes.items i d)) → IsKnown N.knows h held world) }
         ensures going { IfOk result (λ world. world.ended ≡ false) }
     {
-        let mut requests = Vec::new(alloc);
-        for _ in 0..clients {
-            requests.push(Vec::new(alloc))?;
-        }
+        let clients = clients_of(alloc, f, clients)?;
         let mail = Mail::new(alloc)?;
         let recent = HeapCircularBuffer::with_capacity(alloc, 8)?;
         let correct = first_correct(&faulty);
@@ -44,10 +48,24 @@ impl<N: Node> World<N> {
                 faulty,
                 correct,
             },
-            requests,
+            clients,
             mail,
             recent,
             ended: false,
         })
     }
+}
+
+// So many clients, numbered from 0, before any request.
+fn clients_of(alloc: Global, f: u8, count: u8) -> Result<Vec<Client>, OutOfMemory>
+    requires { (f ≤ 3) × (count ≤ 16) }
+    ensures count { IfOk result (λ clients. length clients.items ≡ count) }
+    ensures stand { IfOk result (λ clients. (g : Ring) → g.f ≡ f → (c : ℕ) (d : Client) → c < count → ClientStands (slice_index_or clients.items c d) g c [] []) }
+    ensures none { IfOk result (λ clients. (c : ℕ) (d : Client) → c < count → length (slice_index_or clients.items c d).requests.items ≡ 0) }
+{
+    let mut clients = Vec::new(alloc);
+    for number in 0..count {
+        clients.push(Client::new(alloc, ClientId(number), f)?)?;
+    }
+    Ok(clients)
 }

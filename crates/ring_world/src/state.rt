@@ -1,7 +1,7 @@
 // What a world keeps.
-use crate::asked::Asked;
 use crate::members::Members;
 use circular_buffer::HeapCircularBuffer;
+use client_core::Client;
 use pond_base::Party;
 use ring_mail::Mail;
 use std::alloc::Global;
@@ -11,8 +11,7 @@ use std::alloc::Global;
 pub struct World<N> {
     pub(crate) alloc: Global,
     pub(crate) members: Members<N>,
-    /// The requests of each client, in order.
-    pub(crate) requests: Vec<Vec<Asked>>,
+    pub(crate) clients: Vec<Client>,
     pub(crate) mail: Mail,
     /// The last deliveries, with places from 1 on.
     pub(crate) recent: HeapCircularBuffer<(Party, Party, u32)>,

@@ -6,7 +6,7 @@ ghost use Rattle.cow_tree.specs.Laws.{Keeps};
 ghost use Rattle.ring_model.specs.Messages.{FewFaulty, Packet};
 ghost use Rattle.ring_model.specs.World.{world, chosen};
 ghost use Rattle.ring_model.specs.Laws.{IsPrefix, NoClash};
-ghost use Rattle.ring_world.specs.Named.{Names};
+ghost use Rattle.client_core.specs.Naming.{Names};
 ghost use Rattle.ring_world.specs.Steps.{IsStep, IsStepClash, Ends, is_there, said_by, said_of};
 ghost use Rattle.ring_world.specs.Worlds.{WorldStands, IsKnown, ForStep, event_of, strings_of};
 

@@ -1,2 +1,4 @@
 mod Lines
 mod Lists
+mod Names
+mod Beliefs

@@ -9,7 +9,7 @@ use Rattle.ring_model.specs.World.{Event, between, world}
 use Rattle.ring_model.proofs.Lists.{there_first, there_later, there_cases, there_none}
 use Rattle.ring_world.proofs.Order.{came_submits}
 use Rattle.script_terms.specs.declared.line.Line.{Line}
-use Rattle.script_terms.specs.declared.line.Line.TheVariants.{Submit, Resubmit, Deliver, Settle, ForgeOrder, ForgePrepare, ForgeCommit, ForgeRaw}
+use Rattle.script_terms.specs.declared.line.Line.TheVariants.{Submit, Resubmit, Deliver, Settle, ForgeOrder, ForgePrepare, ForgeCommit, ForgeHeart, ForgeRaw}
 use Rattle.script_terms.specs.declared.script.Script.{Script}
 use Rattle.text_model.specs.Requests.{Numbered, next_request, with_line, submitted}
 use Rattle.text_model.specs.Events.{ring_for, is_passed, most_messages, with_events, events_of, world_of}
@@ -31,6 +31,7 @@ line_adds h g earlier events Settle = reached g (is_passed earlier) events 0 mos
 line_adds h g earlier events (ForgeOrder member to seq client number) = (_ ∷ [], refl)
 line_adds h g earlier events (ForgePrepare member to seq client number) = (_ ∷ [], refl)
 line_adds h g earlier events (ForgeCommit member to seq client number) = (_ ∷ [], refl)
+line_adds h g earlier events (ForgeHeart member to label version name) = (_ ∷ [], refl)
 line_adds h g earlier events (ForgeRaw member to content) = (_ ∷ [], refl)
 line_adds h g earlier events line = ([], refl)
 

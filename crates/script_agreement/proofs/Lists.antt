@@ -1,6 +1,6 @@
 -- The lists of a script's members, by the agreement of the ring.
-use Rattle.std.proofs.Common.{◌≡◌, ◌<◌, ◌*◌, ◌+◌, ℕ, List, ◌++◌, map, Contains, ⊎_elim, sym, ap, ◌∙◌, subst, arith}
-use Rattle.std.proofs.lemmas.List.Elements.{Contains-append_right}
+use Rattle.std.proofs.Common.{◌≡◌, ◌<◌, ◌*◌, ◌+◌, ℕ, List, [], ◌∷◌, ◌++◌, map, Contains, ⊎_elim, sym, ap, ◌∙◌, subst, arith}
+use Rattle.std.specs.List.{AllByRecursion as Each}
 use Rattle.guarded_update.specs.declared.request.Request.{Request}
 use Rattle.guarded_update.specs.Fitting.{IsRequest}
 use Rattle.message_model.specs.Requests.{request_at}
@@ -57,22 +57,36 @@ chosen_asked g events legal string there =
 -- ---- the lines
 
 -- a committed request was submitted, where those that are submitted can be read
-committed_asked : (h : List ℕ → List ℕ) (script : Script) (lines : List Numbered) → IsLegal (ring_for h script) (events_of h script lines) → ((request : Request) → Contains (submitted h lines) request → IsRequest request)
+pub committed_asked : (h : List ℕ → List ℕ) (script : Script) (lines : List Numbered) → IsLegal (ring_for h script) (events_of h script lines) → Each IsRequest (submitted h lines)
     → (request : Request) → Contains (committed_requests h script lines) request → Contains (submitted h lines) request
 committed_asked h script lines legal are request there =
     let strings = chosen (ring_for h script) (world_of h script lines) in
     let spelled = in_map request_at strings request (in_reverse (map request_at strings) request there) in
     let own = lines_ask h script lines spelled.0 (chosen_asked (ring_for h script) (events_of h script lines) legal spelled.0 spelled.1) in
-    let read : own.0 ≡ request = sym (request_seam own.0 (are own.0 own.1).places) ∙ ap request_at own.2 ∙ spelled.2 in
+    let read : own.0 ≡ request = sym (request_seam own.0 (Each-there IsRequest (submitted h lines) own.0 are own.1).places) ∙ ap request_at own.2 ∙ spelled.2 in
     subst (Contains (submitted h lines)) read own.1
 
 -- the events of some of the lines
 events_end : (h : List ℕ → List ℕ) (script : Script) (lines later earlier : List Numbered) → lines ≡ later ++ earlier → EndsWith (events_of h script lines) (events_of h script earlier)
 events_end h script lines later earlier is = subst (λ all. EndsWith (events_of h script all) (events_of h script earlier)) (sym is) (lines_add h script later earlier)
 
--- and their requests
-submits_end : (h : List ℕ → List ℕ) (lines later earlier : List Numbered) → lines ≡ later ++ earlier → EndsWith (submitted h lines) (submitted h earlier)
-submits_end h lines later earlier is = subst (λ all. EndsWith (submitted h all) (submitted h earlier)) (sym is) (lines_submit h later earlier)
+-- they are legal where all are
+pub legal_before : (h : List ℕ → List ℕ) (script : Script) (lines later earlier : List Numbered) → lines ≡ later ++ earlier → IsLegal (ring_for h script) (events_of h script lines)
+    → IsLegal (ring_for h script) (events_of h script earlier)
+legal_before h script lines later earlier is legal =
+    let before = events_end h script lines later earlier is in
+    legal_behind (ring_for h script) before.0 (events_of h script earlier) (subst (IsLegal (ring_for h script)) before.1 legal)
+
+-- what is so of each of a list is so of those behind the first ones
+pub Each-behind : {X : Type 0} (P : X → Type 0) (xs ys : List X) → Each P (xs ++ ys) → Each P ys
+Each-behind P [] ys all = all
+Each-behind P (x ∷ xs) ys all = Each-behind P xs ys all.1
+
+-- what some of the lines submit can be read where all that is submitted can be
+pub requests_before : (h : List ℕ → List ℕ) (lines later earlier : List Numbered) → lines ≡ later ++ earlier → Each IsRequest (submitted h lines) → Each IsRequest (submitted h earlier)
+requests_before h lines later earlier is are =
+    let more = lines_submit h later earlier in
+    Each-behind IsRequest more.0 (submitted h earlier) (subst (Each IsRequest) more.1 (subst (λ all. Each IsRequest (submitted h all)) is are))
 
 pub lists_are_one : ListsAreOne
 lists_are_one h script lines fits legal clear are = record {
@@ -80,11 +94,7 @@ lists_are_one h script lines fits legal clear are = record {
       let below : member.0 < 3 * script.setup.f + 1 = omega (arith, low) in
       executed_ends g few (events_of h script lines) (events_of h script earlier) (events_end h script lines later earlier is) legal clear member.0 (below, ok);
   grows = λ later earlier is. chosen_ends g few (events_of h script lines) (events_of h script earlier) (events_end h script lines later earlier is) legal clear;
-  asked = λ later earlier is.
-      let before = events_end h script lines later earlier is in
-      let requests = submits_end h lines later earlier is in
-      committed_asked h script earlier (legal_behind g before.0 (events_of h script earlier) (subst (IsLegal g) before.1 legal))
-      (λ request there. Each-there IsRequest (submitted h lines) request are (subst (λ all. Contains all request) (sym requests.1) (Contains-append_right requests.0 (submitted h earlier) request there)));
+  asked = λ later earlier is. committed_asked h script earlier (legal_before h script lines later earlier is legal) (requests_before h lines later earlier is are);
 }
   where
     g : Ring

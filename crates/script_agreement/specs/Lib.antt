@@ -1,2 +1,3 @@
 pub mod OneList
+pub mod Beliefs
 pub mod Laws

@@ -338,6 +338,7 @@ fn is_request(item: &Item) -> bool
                 | Line::ForgeOrder { .. }
                 | Line::ForgePrepare { .. }
                 | Line::ForgeCommit { .. }
+                | Line::ForgeHeart { .. }
                 | Line::ForgeRaw { .. }
         )
     )

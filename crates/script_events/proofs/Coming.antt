@@ -19,7 +19,7 @@ use Rattle.ring_world.specs.Worlds as asking
 use Rattle.pond_world.specs.Coming.{MayCome}
 use Rattle.pond_world.proofs.Flags.{few_among}
 use Rattle.script_terms.specs.declared.line.Line.{Line}
-use Rattle.script_terms.specs.declared.line.Line.TheVariants.{Submit, Resubmit, Deliver, Lose, Settle, Mute, Unmute, ForgeOrder, ForgePrepare, ForgeCommit, ForgeRaw, Read, ShowMember, ShowVersion, ShowRecent}
+use Rattle.script_terms.specs.declared.line.Line.TheVariants.{Submit, Resubmit, Deliver, Lose, Settle, Mute, Unmute, ForgeOrder, ForgePrepare, ForgeCommit, ForgeHeart, ForgeRaw, Read, ShowMember, ShowClient, ShowVersion, ShowRecent}
 use Rattle.script_terms.specs.declared.line.LineClause.{LineClause}
 use Rattle.script_terms.specs.declared.script.Script.{Script}
 use Rattle.script_limits.specs.Limits.{IsFaulty, LineFits, SetupFits, requests_in, update_of}
@@ -99,6 +99,7 @@ line_comes h script earlier (Deliver sender to place) e setup fits all is =
 line_comes h script earlier (ForgeOrder member to seq client number) e setup fits all is = forged_comes h script earlier member to _ e setup fits.0 fits.1 is
 line_comes h script earlier (ForgePrepare member to seq client number) e setup fits all is = forged_comes h script earlier member to _ e setup fits.0 fits.1 is
 line_comes h script earlier (ForgeCommit member to seq client number) e setup fits all is = forged_comes h script earlier member to _ e setup fits.0 fits.1 is
+line_comes h script earlier (ForgeHeart member to label version name) e setup fits all is = forged_comes h script earlier member to _ e setup fits.0 fits.1 is
 line_comes h script earlier (ForgeRaw member to content) e setup fits all is = forged_comes h script earlier member to (meaning content) e setup fits.0 fits.1 (content, is, refl)
 line_comes h script earlier (Lose sender to place) e setup fits all is = absurd is
 line_comes h script earlier Settle e setup fits all is = absurd is
@@ -106,6 +107,7 @@ line_comes h script earlier (Mute party) e setup fits all is = absurd is
 line_comes h script earlier (Unmute party) e setup fits all is = absurd is
 line_comes h script earlier (Read client label) e setup fits all is = absurd is
 line_comes h script earlier (ShowMember member) e setup fits all is = absurd is
+line_comes h script earlier (ShowClient client) e setup fits all is = absurd is
 line_comes h script earlier (ShowVersion member label version) e setup fits all is = absurd is
 line_comes h script earlier ShowRecent e setup fits all is = absurd is
 

@@ -16,7 +16,7 @@ use Rattle.fold_model.proofs.Joined.{ring_is_read}
 use Rattle.ring_mail.specs.Places.{Place}
 use Rattle.ring_world.specs.Deliveries.{pending}
 use Rattle.script_terms.specs.declared.line.Line.{Line}
-use Rattle.script_terms.specs.declared.line.Line.TheVariants.{Submit, Resubmit, Deliver, Lose, Settle, Mute, Unmute, ForgeOrder, ForgePrepare, ForgeCommit, ForgeRaw, Read, ShowMember, ShowVersion, ShowRecent}
+use Rattle.script_terms.specs.declared.line.Line.TheVariants.{Submit, Resubmit, Deliver, Lose, Settle, Mute, Unmute, ForgeOrder, ForgePrepare, ForgeCommit, ForgeHeart, ForgeRaw, Read, ShowMember, ShowClient, ShowVersion, ShowRecent}
 use Rattle.script_terms.specs.declared.script.Script.{Script}
 use Rattle.script_limits.specs.Limits.{submits_in}
 use Rattle.script_limits.proofs.Turns.{submits_are_requests as counts_are}
@@ -56,9 +56,11 @@ line_submits h g earlier events (Unmute party) e = e
 line_submits h g earlier events (ForgeOrder member to seq client number) e = e
 line_submits h g earlier events (ForgePrepare member to seq client number) e = e
 line_submits h g earlier events (ForgeCommit member to seq client number) e = e
+line_submits h g earlier events (ForgeHeart member to label version name) e = e
 line_submits h g earlier events (ForgeRaw member to content) e = e
 line_submits h g earlier events (Read client label) e = e
 line_submits h g earlier events (ShowMember member) e = e
+line_submits h g earlier events (ShowClient client) e = e
 line_submits h g earlier events (ShowVersion member label version) e = e
 line_submits h g earlier events ShowRecent e = e
 
@@ -105,9 +107,11 @@ line_others h requests (Unmute party) quiet = refl
 line_others h requests (ForgeOrder member to seq client number) quiet = refl
 line_others h requests (ForgePrepare member to seq client number) quiet = refl
 line_others h requests (ForgeCommit member to seq client number) quiet = refl
+line_others h requests (ForgeHeart member to label version name) quiet = refl
 line_others h requests (ForgeRaw member to content) quiet = refl
 line_others h requests (Read client label) quiet = refl
 line_others h requests (ShowMember member) quiet = refl
+line_others h requests (ShowClient client) quiet = refl
 line_others h requests (ShowVersion member label version) quiet = refl
 line_others h requests ShowRecent quiet = refl
 
@@ -125,9 +129,11 @@ line_requests h earlier (Unmute party) is all = all
 line_requests h earlier (ForgeOrder member to seq client number) is all = all
 line_requests h earlier (ForgePrepare member to seq client number) is all = all
 line_requests h earlier (ForgeCommit member to seq client number) is all = all
+line_requests h earlier (ForgeHeart member to label version name) is all = all
 line_requests h earlier (ForgeRaw member to content) is all = all
 line_requests h earlier (Read client label) is all = all
 line_requests h earlier (ShowMember member) is all = all
+line_requests h earlier (ShowClient client) is all = all
 line_requests h earlier (ShowVersion member label version) is all = all
 line_requests h earlier ShowRecent is all = all
 

@@ -7,13 +7,14 @@ use Rattle.pond_base.specs.declared.numbers.Party.{Party}
 use Rattle.guarded_update.specs.declared.request.Request.{Request}
 use Rattle.guarded_update.specs.Fitting.{IsRequest}
 use Rattle.guarded_update.specs.Spelling.{request_string}
-use Rattle.ring_model.specs.Messages.{Ring, Message, PrePrepare, Prepare, Commit}
+use Rattle.object_model.specs.Trees.{object_name}
+use Rattle.ring_model.specs.Messages.{Ring, Message, PrePrepare, Prepare, Commit, Heart}
 use Rattle.ring_model.specs.World.{World}
 use Rattle.message_model.specs.Meaning.{meaning}
 use Rattle.ring_world.specs.declared.event.Event.{Event}
 use Rattle.ring_world.specs.declared.event.Event.TheVariants as event
 use Rattle.script_terms.specs.declared.line.Line.{Line}
-use Rattle.script_terms.specs.declared.line.Line.TheVariants.{Submit, Resubmit, Deliver, ForgeOrder, ForgePrepare, ForgeCommit, ForgeRaw}
+use Rattle.script_terms.specs.declared.line.Line.TheVariants.{Submit, Resubmit, Deliver, ForgeOrder, ForgePrepare, ForgeCommit, ForgeHeart, ForgeRaw}
 use Rattle.script_terms.specs.declared.script.Script.{Script}
 use Rattle.script_limits.specs.Limits.{update_of}
 use Rattle.text_model.specs.Requests.{Numbered, next_request, submitted}
@@ -36,6 +37,7 @@ IsEventOf h script earlier (Deliver sender to place) e = e ≡ event.Deliver sen
 IsEventOf h script earlier (ForgeOrder member to seq client number) e = Forges member to (PrePrepare seq.0 (asked_after h script earlier client number)) e
 IsEventOf h script earlier (ForgePrepare member to seq client number) e = Forges member to (Prepare seq.0 (h (asked_after h script earlier client number))) e
 IsEventOf h script earlier (ForgeCommit member to seq client number) e = Forges member to (Commit seq.0 (h (asked_after h script earlier client number))) e
+IsEventOf h script earlier (ForgeHeart member to label version name) e = Forges member to (Heart (object_name h label) version.0 name) e
 IsEventOf h script earlier (ForgeRaw member to content) e = e ≡ event.Forge member to content
 IsEventOf h script earlier line e = ⊥
 

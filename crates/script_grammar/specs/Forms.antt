@@ -7,7 +7,7 @@ use Rattle.script_terms.specs.declared.cause.Cause.TheVariants as causes
 use Rattle.script_terms.specs.declared.declaration.Declaration.TheVariants as declared
 use Rattle.script_terms.specs.declared.item.Item.{Item}
 use Rattle.script_terms.specs.declared.item.Item.TheVariants.{Declared, Event}
-use Rattle.script_terms.specs.declared.line.Line.TheVariants.{Submit, Resubmit, Deliver, Lose, Settle, Mute, Unmute, ForgeOrder, ForgePrepare, ForgeCommit, ForgeRaw, Read, ShowMember, ShowVersion, ShowRecent}
+use Rattle.script_terms.specs.declared.line.Line.TheVariants.{Submit, Resubmit, Deliver, Lose, Settle, Mute, Unmute, ForgeOrder, ForgePrepare, ForgeCommit, ForgeHeart, ForgeRaw, Read, ShowMember, ShowClient, ShowVersion, ShowRecent}
 use Rattle.script_terms.specs.declared.verb.Verb.{Verb}
 use Rattle.script_terms.specs.declared.verb.Verb.TheVariants as verbs
 use Rattle.script_grammar.specs.Results.{◌>>=◌, or_cause}
@@ -82,11 +82,13 @@ forms verbs.Forge =
     record { slots = slot_words (codes "order"); make = λ member to seq client number. Event (ForgeOrder (record { 0 = member }) to (record { 0 = seq }) (record { 0 = client }) number) }
     ∷ record { slots = slot_words (codes "prepare"); make = λ member to seq client number. Event (ForgePrepare (record { 0 = member }) to (record { 0 = seq }) (record { 0 = client }) number) }
     ∷ record { slots = slot_words (codes "commit"); make = λ member to seq client number. Event (ForgeCommit (record { 0 = member }) to (record { 0 = seq }) (record { 0 = client }) number) }
+    ∷ record { slots = Number ∷ PartyWord ∷ Fixed (codes "heart") ∷ Label ∷ Number ∷ Name ∷ []; make = λ member to label version name. Event (ForgeHeart (record { 0 = member }) to label (record { 0 = version }) name) }
     ∷ record { slots = Number ∷ PartyWord ∷ Fixed (codes "raw") ∷ Data ∷ []; make = λ member to content. Event (ForgeRaw (record { 0 = member }) to content) }
     ∷ []
 forms verbs.Read = record { slots = Number ∷ Label ∷ []; make = λ client label. Event (Read (record { 0 = client }) label) } ∷ []
 forms verbs.Show =
     record { slots = Fixed (codes "member") ∷ Number ∷ []; make = λ member. Event (ShowMember (record { 0 = member })) }
+    ∷ record { slots = Fixed (codes "client") ∷ Number ∷ []; make = λ client. Event (ShowClient (record { 0 = client })) }
     ∷ record { slots = Fixed (codes "version") ∷ Number ∷ Label ∷ Number ∷ []; make = λ member label version. Event (ShowVersion (record { 0 = member }) label (record { 0 = version })) }
     ∷ record { slots = Fixed (codes "recent") ∷ []; make = Event ShowRecent }
     ∷ []

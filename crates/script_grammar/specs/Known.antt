@@ -7,7 +7,7 @@ use Rattle.pond_base.specs.declared.numbers.MemberId.{MemberId}
 use Rattle.script_terms.specs.declared.declaration.Declaration.TheVariants.{Pond, Ring, Faulty, Block, Clients, Home}
 use Rattle.script_terms.specs.declared.item.Item.{Item}
 use Rattle.script_terms.specs.declared.item.Item.TheVariants.{Declared, Event}
-use Rattle.script_terms.specs.declared.line.Line.TheVariants.{Submit, Resubmit, ForgeOrder, ForgePrepare, ForgeCommit, ForgeRaw}
+use Rattle.script_terms.specs.declared.line.Line.TheVariants.{Submit, Resubmit, ForgeOrder, ForgePrepare, ForgeCommit, ForgeHeart, ForgeRaw}
 
 -- the rank of what a line says: declarations have 1 to 8, and events have 9
 abbrev pub rank : Item → ℕ
@@ -70,6 +70,7 @@ is_request (Event (Resubmit client number)) = true
 is_request (Event (ForgeOrder member to seq client number)) = true
 is_request (Event (ForgePrepare member to seq client number)) = true
 is_request (Event (ForgeCommit member to seq client number)) = true
+is_request (Event (ForgeHeart member to label version name)) = true
 is_request (Event (ForgeRaw member to content)) = true
 is_request item = false
 

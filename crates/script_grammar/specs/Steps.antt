@@ -14,7 +14,7 @@ use Rattle.script_terms.specs.declared.declaration.Declaration.TheVariants as de
 use Rattle.script_terms.specs.declared.item.Item.{Item}
 use Rattle.script_terms.specs.declared.item.Item.TheVariants.{Declared, Event}
 use Rattle.script_terms.specs.declared.line.Line.{Line}
-use Rattle.script_terms.specs.declared.line.Line.TheVariants.{Submit, Resubmit, Deliver, Lose, Settle, Mute, Unmute, ForgeOrder, ForgePrepare, ForgeCommit, ForgeRaw, Read, ShowMember, ShowVersion, ShowRecent}
+use Rattle.script_terms.specs.declared.line.Line.TheVariants.{Submit, Resubmit, Deliver, Lose, Settle, Mute, Unmute, ForgeOrder, ForgePrepare, ForgeCommit, ForgeHeart, ForgeRaw, Read, ShowMember, ShowClient, ShowVersion, ShowRecent}
 use Rattle.script_terms.specs.declared.line.LineClause.{LineClause}
 use Rattle.script_terms.specs.declared.line.LineGuard.{LineGuard}
 use Rattle.script_terms.specs.declared.line.LineGuard.TheVariants.{BlockIs}
@@ -103,9 +103,11 @@ line_in_range k (Unmute party) = is_party k party
 line_in_range k (ForgeOrder member to seq client number) = may_forge k member.0 to seq.0 client.0 number
 line_in_range k (ForgePrepare member to seq client number) = may_forge k member.0 to seq.0 client.0 number
 line_in_range k (ForgeCommit member to seq client number) = may_forge k member.0 to seq.0 client.0 number
+line_in_range k (ForgeHeart member to label version name) = is_faulty k member.0 && is_party k to && nat_le 1 version.0
 line_in_range k (ForgeRaw member to content) = is_faulty k member.0 && is_party k to
 line_in_range k (Read client label) = is_client k client.0
 line_in_range k (ShowMember member) = is_member k member.0
+line_in_range k (ShowClient client) = is_client k client.0
 line_in_range k (ShowVersion member label version) = is_member k member.0 && nat_le 1 version.0
 line_in_range k ShowRecent = true
 

@@ -13,7 +13,7 @@ ghost use Rattle.guarded_update.specs.declared.setup.Place.TheVariants as places
 ghost use Rattle.guarded_update.specs.declared.update.Action.TheVariants.{Append, Replace, Truncate, Splice};
 ghost use Rattle.script_terms.specs.declared.cause.Cause.TheVariants as causes;
 ghost use Rattle.pond_base.specs.declared.numbers.Party.TheVariants.{Member, Client};
-ghost use Rattle.script_terms.specs.declared.line.Line.TheVariants.{Submit, Resubmit, Deliver, Lose, Settle, Mute, Unmute, ForgeOrder, ForgePrepare, ForgeCommit, ForgeRaw, Read, ShowMember, ShowVersion, ShowRecent};
+ghost use Rattle.script_terms.specs.declared.line.Line.TheVariants.{Submit, Resubmit, Deliver, Lose, Settle, Mute, Unmute, ForgeOrder, ForgePrepare, ForgeCommit, ForgeHeart, ForgeRaw, Read, ShowMember, ShowClient, ShowVersion, ShowRecent};
 ghost use Rattle.script_terms.specs.declared.line.LineGuard.TheVariants.{VersionIs, SizeIs, BlockIs};
 ghost use Rattle.script_grammar.specs.Worked.{IsRefused, IsScript};
 
@@ -24,7 +24,7 @@ pub fn first_step_that_fails()
     ensures verb { IsRefused 2 causes.Verb (codes "pond 1" ∷ codes "readat 0 a 0 4" ∷ []) }
     ensures order { IsRefused 2 causes.Order (codes "pond 1" ∷ codes "settle now" ∷ []) }
     ensures words { IsRefused 4 causes.Words (codes "pond 1" ∷ codes "ring 0" ∷ codes "# a comment" ∷ codes "read A" ∷ []) }
-    ensures fixed { IsRefused 3 causes.Words (codes "pond 1" ∷ codes "ring 0" ∷ codes "show client A" ∷ []) }
+    ensures fixed { IsRefused 3 causes.Words (codes "pond 1" ∷ codes "ring 0" ∷ codes "show clients A" ∷ []) }
     ensures word { IsRefused 3 causes.Word (codes "pond 1" ∷ codes "ring 0" ∷ codes "read 9 A" ∷ []) }
     ensures range { IsRefused 3 causes.Range (codes "pond 1" ∷ codes "ring 0" ∷ codes "read 1 a" ∷ []) }
     ensures end { IsRefused 2 causes.Order (codes "pond 1" ∷ []) }
@@ -93,7 +93,26 @@ pub fn forgeries_of_faulty_members()
     ensures content { IsRefused 5 causes.Word (codes "pond 1" ∷ codes "ring 1" ∷ codes "faulty 1" ∷ codes "submit 0 a append 61" ∷ codes "forge 1 m0 raw 0" ∷ []) }
     ensures kind { IsRefused 5 causes.Words (codes "pond 1" ∷ codes "ring 1" ∷ codes "faulty 1" ∷ codes "submit 0 a append 61" ∷ codes "forge 1 m0 request 1 0 1" ∷ []) }
     ensures count { IsRefused 5 causes.Words (codes "pond 1" ∷ codes "ring 1" ∷ codes "faulty 1" ∷ codes "submit 0 a append 61" ∷ codes "forge 1 m0 order 00" ∷ []) }
-    ensures heart { IsRefused 5 causes.Words (codes "pond 1" ∷ codes "ring 1" ∷ codes "faulty 1" ∷ codes "submit 0 a append 61" ∷ codes "forge 1 c0 heart a 1 da39a3ee5e6b4b0d3255bfef95601890afd80709" ∷ []) }
+{}
+
+/// A faulty member sends a heart of a version from 1 on, with a name of 40 hexadecimal digits.
+pub fn forged_hearts()
+    ensures correct { IsRefused 4 causes.Range (codes "pond 1" ∷ codes "ring 1" ∷ codes "faulty 1" ∷ codes "forge 0 c0 heart a 1 da39a3ee5e6b4b0d3255bfef95601890afd80709" ∷ []) }
+    ensures party { IsRefused 4 causes.Range (codes "pond 1" ∷ codes "ring 1" ∷ codes "faulty 1" ∷ codes "forge 1 c1 heart a 1 da39a3ee5e6b4b0d3255bfef95601890afd80709" ∷ []) }
+    ensures version { IsRefused 4 causes.Range (codes "pond 1" ∷ codes "ring 1" ∷ codes "faulty 1" ∷ codes "forge 1 c0 heart a 0 da39a3ee5e6b4b0d3255bfef95601890afd80709" ∷ []) }
+    ensures label { IsRefused 4 causes.Word (codes "pond 1" ∷ codes "ring 1" ∷ codes "faulty 1" ∷ codes "forge 1 c0 heart A 1 da39a3ee5e6b4b0d3255bfef95601890afd80709" ∷ []) }
+    ensures name { IsRefused 4 causes.Word (codes "pond 1" ∷ codes "ring 1" ∷ codes "faulty 1" ∷ codes "forge 1 c0 heart a 1 da39a3ee5e6b4b0d3255bfef95601890afd8070" ∷ []) }
+    ensures digits { IsRefused 4 causes.Word (codes "pond 1" ∷ codes "ring 1" ∷ codes "faulty 1" ∷ codes "forge 1 c0 heart a 1 da39a3ee5e6b4b0d3255bfef95601890afd8070g" ∷ []) }
+    ensures long { IsRefused 4 causes.Word (codes "pond 1" ∷ codes "ring 1" ∷ codes "faulty 1" ∷ codes "forge 1 c0 heart a 1 da39a3ee5e6b4b0d3255bfef95601890afd8070900" ∷ []) }
+    ensures first { IsRefused 4 causes.Word (codes "pond 1" ∷ codes "ring 1" ∷ codes "faulty 1" ∷ codes "forge 0 c1 heart a 0 da39a3ee5e6b4b0d3255bfef95601890afd8070" ∷ []) }
+    ensures count { IsRefused 4 causes.Words (codes "pond 1" ∷ codes "ring 1" ∷ codes "faulty 1" ∷ codes "forge 1 c0 heart a 1" ∷ []) }
+{}
+
+/// What a client believes is shown of a client that is declared.
+pub fn clients_are_shown()
+    ensures range { IsRefused 3 causes.Range (codes "pond 1" ∷ codes "ring 0" ∷ codes "show client 1" ∷ []) }
+    ensures word { IsRefused 3 causes.Word (codes "pond 1" ∷ codes "ring 0" ∷ codes "show client c0" ∷ []) }
+    ensures words { IsRefused 3 causes.Words (codes "pond 1" ∷ codes "ring 0" ∷ codes "show client" ∷ []) }
 {}
 
 /// A script of the forms of one member.
@@ -138,12 +157,15 @@ pub fn forms_of_rings()
               ∷ (12, ForgeOrder (record { 0 = 3 }) (Member (record { 0 = 1 })) (record { 0 = 1 }) (record { 0 = 1 }) 1)
               ∷ (13, ForgePrepare (record { 0 = 3 }) (Member (record { 0 = 2 })) (record { 0 = 65536 }) (record { 0 = 1 }) 1)
               ∷ (14, ForgeCommit (record { 0 = 3 }) (Client (record { 0 = 0 })) (record { 0 = 2 }) (record { 0 = 1 }) 1)
-              ∷ (15, ForgeRaw (record { 0 = 3 }) (Client (record { 0 = 1 })) (0 ∷ 255 ∷ []))
-              ∷ (16, ShowMember (record { 0 = 3 }))
-              ∷ (17, ShowRecent)
+              ∷ (15, ForgeHeart (record { 0 = 3 }) (Client (record { 0 = 1 })) (codes "a") (record { 0 = 1 }) (0 ∷ 17 ∷ 34 ∷ 51 ∷ 68 ∷ 85 ∷ 102 ∷ 119 ∷ 136 ∷ 153 ∷ 170 ∷ 187 ∷ 204 ∷ 221 ∷ 238 ∷ 255 ∷ 1 ∷ 35 ∷ 69 ∷ 103 ∷ []))
+              ∷ (16, ForgeRaw (record { 0 = 3 }) (Client (record { 0 = 1 })) (0 ∷ 255 ∷ []))
+              ∷ (17, ShowMember (record { 0 = 3 }))
+              ∷ (18, ShowClient (record { 0 = 1 }))
+              ∷ (19, ShowRecent)
               ∷ [];
         })
         (codes "pond 1" ∷ codes "ring 1" ∷ codes "faulty 3" ∷ codes "clients 2" ∷ codes "home 1 member 3" ∷ codes "submit 1 a append 61" ∷ codes "resubmit 1 1"
         ∷ codes "deliver c1 m0 1" ∷ codes "lose m0 m3 4294967295" ∷ codes "mute m3" ∷ codes "unmute c0" ∷ codes "forge 3 m1 order 1 1 1" ∷ codes "forge 3 m2 prepare 65536 1 1"
-        ∷ codes "forge 3 c0 commit 2 1 1" ∷ codes "forge 3 c1 raw 00fF" ∷ codes "show member 3" ∷ codes "show recent" ∷ []) }
+        ∷ codes "forge 3 c0 commit 2 1 1" ∷ codes "forge 3 c1 heart a 1 00112233445566778899aAbBcCdDeEfF01234567" ∷ codes "forge 3 c1 raw 00fF"
+        ∷ codes "show member 3" ∷ codes "show client 1" ∷ codes "show recent" ∷ []) }
 {}

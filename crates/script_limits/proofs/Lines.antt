@@ -13,7 +13,7 @@ use Rattle.script_terms.specs.declared.item.Item.{Item}
 use Rattle.script_terms.specs.declared.item.Item.TheVariants.{Declared, Event}
 use Rattle.script_terms.specs.declared.item.Placed.{Placed}
 use Rattle.script_terms.specs.declared.line.Line.{Line}
-use Rattle.script_terms.specs.declared.line.Line.TheVariants.{Submit, Resubmit, Deliver, Lose, Settle, Mute, Unmute, ForgeOrder, ForgePrepare, ForgeCommit, ForgeRaw, Read, ShowMember, ShowVersion, ShowRecent}
+use Rattle.script_terms.specs.declared.line.Line.TheVariants.{Submit, Resubmit, Deliver, Lose, Settle, Mute, Unmute, ForgeOrder, ForgePrepare, ForgeCommit, ForgeHeart, ForgeRaw, Read, ShowMember, ShowClient, ShowVersion, ShowRecent}
 use Rattle.script_terms.specs.declared.line.LineClause.{LineClause}
 use Rattle.script_grammar.specs.Known.{Known, known, is_request, is_submit_of, submits_of}
 use Rattle.script_grammar.specs.Steps.{in_size, changes, is_member, is_client, is_party, is_faulty, has_sent, is_seq, may_forge, line_in_range}
@@ -101,6 +101,9 @@ line_fits placed (Unmute party) s a r z few = party_is placed party r
 line_fits placed (ForgeOrder member to seq client number) s a r z few = forge_is placed member to seq client number s r
 line_fits placed (ForgePrepare member to seq client number) s a r z few = forge_is placed member to seq client number s r
 line_fits placed (ForgeCommit member to seq client number) s a r z few = forge_is placed member to seq client number s r
+line_fits placed (ForgeHeart member to label version name) s a r z few =
+    let parts = and_three (is_faulty (known_of placed) member.0) (is_party (known_of placed) to) (nat_le 1 version.0) r in
+    (parts.0, party_is placed to parts.1, leb-true 1 version.0 parts.2)
 line_fits placed (ForgeRaw member to content) s a r z few = (
   and_first (is_faulty (known_of placed) member.0) (is_party (known_of placed) to) r,
   party_is placed to (and_second (is_faulty (known_of placed) member.0) (is_party (known_of placed) to) r),
@@ -109,6 +112,7 @@ line_fits placed (ForgeRaw member to content) s a r z few = (
 )
 line_fits placed (Read client label) s a r z few = ltb-true client.0 (known_of placed).clients r
 line_fits placed (ShowMember member) s a r z few = leb-true member.0 (3 * (known_of placed).ring) r
+line_fits placed (ShowClient client) s a r z few = ltb-true client.0 (known_of placed).clients r
 line_fits placed (ShowVersion member label version) s a r z few = (
   leb-true member.0 (3 * (known_of placed).ring) (and_first (is_member (known_of placed) member.0) (nat_le 1 version.0) r),
   leb-true 1 version.0 (and_second (is_member (known_of placed) member.0) (nat_le 1 version.0) r),

@@ -63,7 +63,7 @@ raw_made (a ∷ b ∷ c ∷ d ∷ rest) item e =
     made_is : (x y : Item) → ◌≡◌ {A = Result Item Cause} (Ok x) (Ok y) → x ≡ y
     made_is x y e = cc
 
-raw_said : (words : List (List ℕ)) (item : Item) → said_by (drop 3 (forms verbs.Forge)) words ≡ Ok item → Acts item
+raw_said : (words : List (List ℕ)) (item : Item) → said_by (drop 4 (forms verbs.Forge)) words ≡ Ok item → Acts item
 raw_said words item e =
     either (length words == 4 && has_fixed (Number ∷ PartyWord ∷ Fixed (codes "raw") ∷ Data ∷ []) words)
     (made (Number ∷ PartyWord ∷ Fixed (codes "raw") ∷ Data ∷ []) (λ member to content. Event (ForgeRaw (record { 0 = member }) to content)) words) (Err causes.Words) item (Acts item)
@@ -85,6 +85,6 @@ said_acts verbs.Settle words item e = by_form Acts (forms verbs.Settle) words it
 said_acts verbs.Mute words item e = by_form Acts (forms verbs.Mute) words item (λ _. tt, tt) e
 said_acts verbs.Unmute words item e = by_form Acts (forms verbs.Unmute) words item (λ _. tt, tt) e
 said_acts verbs.Forge words item e =
-    by_either Acts (take 3 (forms verbs.Forge)) (drop 3 (forms verbs.Forge)) words item (λ _ _ _ _ _. tt, (λ _ _ _ _ _. tt, (λ _ _ _ _ _. tt, tt))) (raw_said words item) e
+    by_either Acts (take 4 (forms verbs.Forge)) (drop 4 (forms verbs.Forge)) words item (λ _ _ _ _ _. tt, (λ _ _ _ _ _. tt, (λ _ _ _ _ _. tt, (λ _ _ _ _ _. tt, tt)))) (raw_said words item) e
 said_acts verbs.Read words item e = by_form Acts (forms verbs.Read) words item (λ _ _. tt, tt) e
-said_acts verbs.Show words item e = by_form Acts (forms verbs.Show) words item (λ _. tt, (λ _ _ _. tt, (tt, tt))) e
+said_acts verbs.Show words item e = by_form Acts (forms verbs.Show) words item (λ _. tt, (λ _. tt, (λ _ _ _. tt, (tt, tt)))) e

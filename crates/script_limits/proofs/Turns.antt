@@ -11,7 +11,7 @@ use Rattle.pond_base.specs.declared.numbers.MemberId.{MemberId}
 use Rattle.script_terms.specs.declared.item.Item.{Item}
 use Rattle.script_terms.specs.declared.item.Item.TheVariants.{Event}
 use Rattle.script_terms.specs.declared.line.Line.{Line}
-use Rattle.script_terms.specs.declared.line.Line.TheVariants.{Submit, Resubmit, Deliver, Lose, Settle, Mute, Unmute, ForgeOrder, ForgePrepare, ForgeCommit, ForgeRaw, Read, ShowMember, ShowVersion, ShowRecent}
+use Rattle.script_terms.specs.declared.line.Line.TheVariants.{Submit, Resubmit, Deliver, Lose, Settle, Mute, Unmute, ForgeOrder, ForgePrepare, ForgeCommit, ForgeHeart, ForgeRaw, Read, ShowMember, ShowClient, ShowVersion, ShowRecent}
 use Rattle.script_grammar.specs.Known.{is_request, is_submit_of}
 use Rattle.text_model.specs.Requests.{Numbered, count_of, next_request, submitted, with_line}
 use Rattle.script_limits.specs.Limits.{IsFaulty, IsMember, LineFits, LinesFit, SetupFits, items_of, requests_in, submits_in}
@@ -48,9 +48,11 @@ submit_counts h earlier (Unmute party) client e = e
 submit_counts h earlier (ForgeOrder member to seq by number) client e = e
 submit_counts h earlier (ForgePrepare member to seq by number) client e = e
 submit_counts h earlier (ForgeCommit member to seq by number) client e = e
+submit_counts h earlier (ForgeHeart member to label version name) client e = e
 submit_counts h earlier (ForgeRaw member to content) client e = e
 submit_counts h earlier (Read by label) client e = e
 submit_counts h earlier (ShowMember member) client e = e
+submit_counts h earlier (ShowClient shown) client e = e
 submit_counts h earlier (ShowVersion member label version) client e = e
 submit_counts h earlier ShowRecent client e = e
 
@@ -70,9 +72,11 @@ request_counts h earlier (Unmute party) l = l
 request_counts h earlier (ForgeOrder member to seq by number) l = omega (arith, l)
 request_counts h earlier (ForgePrepare member to seq by number) l = omega (arith, l)
 request_counts h earlier (ForgeCommit member to seq by number) l = omega (arith, l)
+request_counts h earlier (ForgeHeart member to label version name) l = omega (arith, l)
 request_counts h earlier (ForgeRaw member to content) l = omega (arith, l)
 request_counts h earlier (Read by label) l = l
 request_counts h earlier (ShowMember member) l = l
+request_counts h earlier (ShowClient client) l = l
 request_counts h earlier (ShowVersion member label version) l = l
 request_counts h earlier ShowRecent l = l
 

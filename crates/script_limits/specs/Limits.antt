@@ -12,7 +12,7 @@ use Rattle.pond_base.specs.declared.numbers.Seq.{Seq}
 use Rattle.script_terms.specs.declared.item.Item.{Item}
 use Rattle.script_terms.specs.declared.item.Item.TheVariants.{Event}
 use Rattle.script_terms.specs.declared.line.Line.{Line}
-use Rattle.script_terms.specs.declared.line.Line.TheVariants.{Submit, Resubmit, Deliver, Lose, Settle, Mute, Unmute, ForgeOrder, ForgePrepare, ForgeCommit, ForgeRaw, Read, ShowMember, ShowVersion, ShowRecent}
+use Rattle.script_terms.specs.declared.line.Line.TheVariants.{Submit, Resubmit, Deliver, Lose, Settle, Mute, Unmute, ForgeOrder, ForgePrepare, ForgeCommit, ForgeHeart, ForgeRaw, Read, ShowMember, ShowClient, ShowVersion, ShowRecent}
 use Rattle.script_terms.specs.declared.line.LineClause.{LineClause}
 use Rattle.script_terms.specs.declared.line.LineGuard.{LineGuard}
 use Rattle.script_terms.specs.declared.line.LineGuard.TheVariants.{VersionIs, SizeIs, BlockIs}
@@ -84,9 +84,11 @@ LineFits setup earlier (Unmute party) = IsParty setup party
 LineFits setup earlier (ForgeOrder member to seq client number) = MayForge setup earlier member to seq client number
 LineFits setup earlier (ForgePrepare member to seq client number) = MayForge setup earlier member to seq client number
 LineFits setup earlier (ForgeCommit member to seq client number) = MayForge setup earlier member to seq client number
+LineFits setup earlier (ForgeHeart member to label version name) = IsFaulty setup member × IsParty setup to × (1 ≤ version.0)
 LineFits setup earlier (ForgeRaw member to content) = IsFaulty setup member × IsParty setup to × (1 ≤ length content) × (length content ≤ 65536)
 LineFits setup earlier (Read client label) = IsClient setup client
 LineFits setup earlier (ShowMember member) = IsMember setup member
+LineFits setup earlier (ShowClient client) = IsClient setup client
 LineFits setup earlier (ShowVersion member label version) = IsMember setup member × (1 ≤ version.0)
 LineFits setup earlier ShowRecent = Unit {0}
 

@@ -15,7 +15,8 @@ use Rattle.script_terms.specs.declared.line.Line.TheVariants.{Submit}
 use Rattle.script_terms.specs.declared.script.Script.{Script}
 use Rattle.text_model.specs.Requests.{Numbered, next_request, with_line, submitted}
 use Rattle.text_model.specs.Events.{world_of}
-use Rattle.text_model.specs.Named.{labels_in, label_strings, start_strings, clause_strings, line_strings, named}
+use Rattle.text_model.specs.Labels.{labels_in}
+use Rattle.text_model.specs.Named.{label_strings, start_strings, clause_strings, line_strings, named}
 use Rattle.script_names.specs.Laws.{AreOfLines}
 use Rattle.script_names.proofs.Elements.{in_map, in_reverse}
 use Rattle.script_names.proofs.Folds.{IsSubmittedLabel}

@@ -1,4 +1,6 @@
+mod Believed
 mod Fresh
+mod LabelBytes
 mod Versions
 mod Slots
 mod Told

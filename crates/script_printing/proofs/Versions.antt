@@ -1,9 +1,10 @@
 -- The versions of an object below a number, and the tree of the version of a number.
-use Rattle.std.proofs.Common.{◌≡◌, ◌<◌, ◌≤◌, ◌+◌, ◌-◌, ℕ, zero, suc, Bool, true, false, cond, nat_lt, Some, None, List, [], ◌∷◌, ◌++◌, length, drop, codes, append_assoc, refl, sym, ◌∙◌, ap, subst, arith, inl, inr}
+use Rattle.std.proofs.Common.{◌≡◌, ◌<◌, ◌≤◌, ◌+◌, ◌-◌, ℕ, zero, suc, Bool, true, false, cond, nat_lt, Some, None, List, [], ◌∷◌, ◌++◌, length, drop, codes, append_assoc, refl, sym, ◌∙◌, ap, ap₂, subst, arith, inl, inr}
 use Rattle.std.specs.Fmt.{decimal}
 use Rattle.std.proofs.lemmas.Bool.{cases_eq, eq-eqb, ne_eqb}
 use Rattle.std.proofs.lemmas.Bool.Decides.{nat_tests}
 use Rattle.std.proofs.lemmas.Grind.{common_steps}
+use Rattle.std.proofs.lemmas.List.{length-drop}
 use Rattle.cow_tree.specs.Views.{TreeView}
 use Rattle.cow_tree.specs.Versions.{StandsFor}
 use Rattle.object_model.specs.Trees.{strings_so_far, version_strings, new_strings, first_times, height_of, root_of}
@@ -145,18 +146,18 @@ shown h block versions k tree printed e told =
 pub none_shown : (h : List ℕ → List ℕ) (block : ℕ) (versions : List (List ℕ)) (k : ℕ) (printed : List ℕ) → tree_at h block versions k ≡ None → printed ≡ model.shape_text h block [] → printed ≡ model.shape_text h block (model.up_to k versions)
 none_shown h block versions k printed e told = told ∙ sym (ap (model.shape_text h block) (up_to_past k versions (tree_past h block versions k e)))
 
--- what is read of the newest version
-pub newest_read : (h : List ℕ → List ℕ) (block : ℕ) (versions : List (List ℕ)) (k : ℕ) (tree : TreeView) (bytes printed : List ℕ) → length versions ≡ k + 1 → 0 < k → tree_at h block versions k ≡ Some tree
-    → ((content : List ℕ) (older : List (List ℕ)) → StandsFor h block tree content older → bytes ≡ content) → printed ≡ model.version_line k bytes → printed ≡ model.read_text versions
-newest_read h block [] k tree bytes printed count more e told line = absurd (omega arith)
-newest_read h block (content ∷ older) k tree bytes printed count more e told line =
-    let same : k ≡ length older = omega arith in
-    let here : Some (tree_of h block content older) ≡ Some tree = sym (ap (λ b. cond b (Some (tree_of h block content older)) (tree_at h block older k)) (eq-eqb k (length older) same)) ∙ e in
-    let is : tree ≡ tree_of h block content older = cc in
-    let made : nat_lt 1 (length (content ∷ older)) ≡ true = grind (arith, nat_tests) in
-    let number : k ≡ length (content ∷ older) - 1 = omega arith in
-    line ∙ ap (model.version_line k) (told content older is) ∙ ap (λ n. model.version_line n content) number
-    ∙ sym (ap (λ b. cond b (model.version_line (length (content ∷ older) - 1) content) (model.read_text [])) made)
+-- what is read of the version of a number
+pub read_up_to : (h : List ℕ → List ℕ) (block : ℕ) (versions : List (List ℕ)) (k : ℕ) (tree : TreeView) (bytes printed : List ℕ) → tree_at h block versions k ≡ Some tree
+    → ((content : List ℕ) (older : List (List ℕ)) → StandsFor h block tree content older → bytes ≡ content) → printed ≡ model.version_line k bytes → printed ≡ model.read_text (model.up_to k versions)
+read_up_to h block versions k tree bytes printed e told line =
+    let up = tree_up_to h block versions k tree e in
+    let within : k < length versions = tree_within h block versions k tree e in
+    let kept : length (up.content ∷ up.older) ≡ length versions - (length versions - 1 - k) = ap length (sym up.is ∙ up_to_within k versions within) ∙ length-drop (length versions - 1 - k) versions in
+    let number : k ≡ length up.older = omega (arith, within, kept) in
+    line ∙ ap₂ model.version_line number (told up.content up.older up.stands) ∙ sym (ap model.read_text up.is)
+
+pub none_read : (h : List ℕ → List ℕ) (block : ℕ) (versions : List (List ℕ)) (k : ℕ) (printed : List ℕ) → tree_at h block versions k ≡ None → printed ≡ model.read_text [] → printed ≡ model.read_text (model.up_to k versions)
+none_read h block versions k printed e told = told ∙ sym (ap model.read_text (up_to_past k versions (tree_past h block versions k e)))
 
 -- the line of a shape
 abbrev shape_of : ℕ → ℕ → ℕ → ℕ → ℕ → List ℕ

@@ -1,3 +1,4 @@
+pub mod Clients
 pub mod Deliveries
 pub mod Executed
 pub mod Sets

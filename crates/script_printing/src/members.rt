@@ -9,6 +9,7 @@ ghost use Rattle.fold_model.specs.Folds.{requests_of};
 ghost use Rattle.text_model.specs.Blocks as model;
 ghost use Rattle.script_printing.specs.Executed.{ForExecuted, line_after};
 
+use crate::outcomes::outcome_text;
 use bytes::Bytes;
 use guarded_update::{Request, RequestFault, read};
 use object_fold::Outcome;
@@ -82,21 +83,4 @@ fn executed_line(
     let number = request.number;
     let outcome = outcome_text(alloc, outcome)?;
     Ok(format!(in alloc; "{slot} c{client} {number} {outcome}\n")?)
-}
-
-// An outcome in words.
-fn outcome_text(alloc: Global, outcome: &Outcome) -> Result<String, OutOfMemory>
-    ensures { IfOk result (λ printed. (h : List ℕ → List ℕ) (block : ℕ) (effect : Effect) (versions : List (List ℕ)) → outcome.now ≡ outcome_of h block effect versions
-        → string_bytes printed ≡ model.outcome_text (length versions) effect) }
-{
-    match outcome {
-        Outcome::Made { version, .. } => {
-            let version = version.0;
-            Ok(format!(in alloc; "made {version}")?)
-        }
-        Outcome::NoClause => Ok(String::from_str(alloc, "no clause")?),
-        Outcome::OutOfRange => Ok(String::from_str(alloc, "out of range")?),
-        Outcome::TooLong => Ok(String::from_str(alloc, "too long")?),
-        Outcome::Repeat => Ok(String::from_str(alloc, "repeat")?),
-    }
 }

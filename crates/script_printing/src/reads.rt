@@ -2,23 +2,29 @@
 ghost use Rattle.std.specs.Prelude.{◌≡◌, ℕ, List, string_bytes, IfOk};
 ghost use Rattle.object_model.specs.Folds.{versions_after};
 ghost use Rattle.object_fold.specs.Executed.{ForAfter};
+ghost use Rattle.heartbeat.specs.Joins.{marked};
 ghost use Rattle.text_model.specs.Blocks as model;
 
 use object_fold::Objects;
-use pond_base::{Label, OutOfMemory};
+use pond_base::{Label, Name, OutOfMemory, Version};
 use std::alloc::Global;
 
-/// What a read of an object prints: the number of its newest version, its length and its bytes in
-/// hexadecimal digits, or `no heart` where none was made. Fails only where memory runs out.
-pub fn read_text(alloc: Global, objects: &Objects, label: &Label) -> Result<String, OutOfMemory>
-    ensures { IfOk result (λ printed. (h : List ℕ → List ℕ) → ForAfter h objects.now (λ block done. string_bytes printed ≡ model.read_text (versions_after h block label.now done))) }
+/// What a read of an object prints: the number of the version that is the client's heart, its length and
+/// its bytes in hexadecimal digits, or `no heart` where there is no heart or no such version. Fails only
+/// where memory runs out.
+pub fn read_text(
+    alloc: Global,
+    objects: &Objects,
+    label: &Label,
+    heart: Option<(Version, Name)>,
+) -> Result<String, OutOfMemory>
+    ensures { IfOk result (λ printed. (h : List ℕ → List ℕ) → ForAfter h objects.now (λ block done. (object : List ℕ) → string_bytes printed ≡ model.read_text (model.up_to_heart (marked object heart) (versions_after h block label.now done)))) }
 {
-    let last = objects.last(label);
-    if last.0 == 0 {
+    let Some((version, _)) = heart else {
         return Ok(String::from_str(alloc, "no heart\n")?);
-    }
-    match objects.tree(label, last) {
-        Some(tree) => version_line(alloc, last.0, &tree.bytes()?),
+    };
+    match objects.tree(label, version) {
+        Some(tree) => version_line(alloc, version.0, &tree.bytes()?),
         None => Ok(String::from_str(alloc, "no heart\n")?),
     }
 }

@@ -1,11 +1,13 @@
--- What members have executed in a run is one list.
+-- What members have executed in a run is one list, and what clients believed is so.
 use Rattle.std.proofs.Common.{ℕ, List, Contains, reverse, subst}
+use Rattle.std.specs.List.{AllByRecursion}
 use Rattle.guarded_update.specs.Spelling.{request_string}
 use Rattle.pond_world.specs.Sites.{SiteView}
 use Rattle.ring_model.specs.Laws.{NoClash}
 use Rattle.ring_world.specs.declared.skips.Skips.{Skips}
-use Rattle.script_agreement.specs.Laws.{ListsAreOne}
+use Rattle.script_agreement.specs.Laws.{ListsAreOne, BeliefsHold}
 use Rattle.script_agreement.specs.OneList.{IsOneList}
+use Rattle.script_agreement.specs.Beliefs.{BeliefsAreTrue}
 use Rattle.script_events.specs.Laws.{SubmitsAreRequests}
 use Rattle.script_limits.specs.Limits.{SetupFits}
 use Rattle.script_names.proofs.Elements.{in_map, in_reverse}
@@ -29,3 +31,7 @@ one_list submits law h script lines site skips setup is =
     let apart : NoClash (ring_for h script) (world_of h script lines).submits =
     λ a b ca cb same. clear a b (submit_named submits h script lines a ca) (submit_named submits h script lines b cb) same in
     law h script lines setup is.stands.legal apart is.requests
+
+pub beliefs_true : BeliefsHold → (h : List ℕ → List ℕ) (script : Script) (lines : List Numbered) (site : SiteView) (skips : Skips) → SetupFits script.setup → AllByRecursion (Contains script.lines) lines → StandsFor h script lines site skips
+    → BeliefsAreTrue h script lines
+beliefs_true law h script lines site skips setup among is = law h script lines setup among is.stands.legal (held_clear h site.held (named h script lines) is.holds.all) is.requests

@@ -13,6 +13,8 @@ use Rattle.pond_base.specs.declared.numbers.ClientId.{ClientId}
 use Rattle.pond_base.specs.declared.numbers.MemberId.{MemberId}
 use Rattle.pond_base.specs.declared.numbers.Party.{Party}
 use Rattle.pond_base.specs.declared.numbers.Seq.{Seq}
+use Rattle.pond_base.specs.declared.numbers.Version.{Version}
+use Rattle.object_model.specs.Trees.{object_name}
 use Rattle.pond_node.specs.Standing.{NodeStands}
 use Rattle.pond_node.specs.declared.node.Node.{Node}
 use Rattle.pond_world.specs.Sites.{SiteView}
@@ -38,7 +40,7 @@ use Rattle.script_names.proofs.Lines.{request_named}
 use Rattle.script_requests.specs.Holding.{HoldsJust, IsClashOf}
 use Rattle.script_requests.proofs.Holds.{clash_more}
 use Rattle.script_terms.specs.declared.line.Line.{Line}
-use Rattle.script_terms.specs.declared.line.Line.TheVariants.{Submit, Resubmit, Deliver, Lose, Settle, Mute, Unmute, ForgeOrder, ForgePrepare, ForgeCommit, ForgeRaw, Read, ShowMember, ShowVersion, ShowRecent}
+use Rattle.script_terms.specs.declared.line.Line.TheVariants.{Submit, Resubmit, Deliver, Lose, Settle, Mute, Unmute, ForgeOrder, ForgePrepare, ForgeCommit, ForgeHeart, ForgeRaw, Read, ShowMember, ShowClient, ShowVersion, ShowRecent}
 use Rattle.script_terms.specs.declared.script.Script.{Script}
 use Rattle.text_model.specs.Events.{ring_for, world_of, events_of, asked_string}
 use Rattle.text_model.specs.Named.{named, line_strings}
@@ -111,6 +113,8 @@ forgery_event h script earlier (ForgePrepare by whom seq client number) member t
     (bytes, ap (λ b. event.Forge b to bytes) (sym f.0) ∙ ap (λ w. event.Forge by w bytes) (sym f.1), means ∙ f.2)
 forgery_event h script earlier (ForgeCommit by whom seq client number) member to sent bytes f means =
     (bytes, ap (λ b. event.Forge b to bytes) (sym f.0) ∙ ap (λ w. event.Forge by w bytes) (sym f.1), means ∙ f.2)
+forgery_event h script earlier (ForgeHeart by whom label version name) member to sent bytes f means =
+    (bytes, ap (λ b. event.Forge b to bytes) (sym f.0) ∙ ap (λ w. event.Forge by w bytes) (sym f.1), means ∙ f.2)
 forgery_event h script earlier (ForgeRaw by whom content) member to sent bytes f means = absurd f
 forgery_event h script earlier (Submit client label clauses) member to sent bytes f means = absurd f
 forgery_event h script earlier (Resubmit client number) member to sent bytes f means = absurd f
@@ -121,6 +125,7 @@ forgery_event h script earlier (Mute party) member to sent bytes f means = absur
 forgery_event h script earlier (Unmute party) member to sent bytes f means = absurd f
 forgery_event h script earlier (Read client label) member to sent bytes f means = absurd f
 forgery_event h script earlier (ShowMember other) member to sent bytes f means = absurd f
+forgery_event h script earlier (ShowClient client) member to sent bytes f means = absurd f
 forgery_event h script earlier (ShowVersion other label version) member to sent bytes f means = absurd f
 forgery_event h script earlier ShowRecent member to sent bytes f means = absurd f
 
@@ -184,3 +189,11 @@ commit_forged fit h script at member to seq client number name site now skips le
     let line : Line = ForgeCommit member to seq client number in
     let fits : LineFits script.setup (lines_before script at) (ForgeCommit member to seq client number) = turn_fits fit h script at line site skips turn in
     record { line = line; turn = turn_again h script at line site now skips left turn stands; forges = (refl, refl, ap (λ text. model.Commit seq.0 text) is); fits = (fits.2, fits.3) }
+
+-- a line that sends a heart
+pub heart_forged : LinesFitInTurn → (h : List ℕ → List ℕ) (script : Script) (at : ℕ) (member : MemberId) (to : Party) (label : List ℕ) (version : Version) (name object : List ℕ) (site : SiteView) (skips : Skips)
+    → IsTurn h script at (ForgeHeart member to label version name) site skips → object ≡ object_name h label → IsForgery h script at member to (message.Heart object version name) site skips
+heart_forged fit h script at member to label version name object site skips turn is =
+    let line : Line = ForgeHeart member to label version name in
+    let fits : LineFits script.setup (lines_before script at) (ForgeHeart member to label version name) = turn_fits fit h script at line site skips turn in
+    record { line = line; turn = turn; forges = (refl, refl, ap (λ o. model.Heart o version.0 name) is); fits = fits.2 }

@@ -7,7 +7,7 @@ mod Kept
 mod Submitted
 mod Passed
 mod Ending
-mod Labels
+mod LabelStrings
 mod First
 mod Agreed
 mod Stepping
@@ -15,3 +15,5 @@ mod Shown
 mod Opening
 mod Requesting
 mod Forgeries
+mod Labelled
+mod Believing

@@ -6,7 +6,7 @@ use Rattle.ring_model.specs.Messages.{same_party}
 use Rattle.message_model.specs.Meaning.{who}
 use Rattle.ring_world.specs.declared.skips.Skips.{Skips}
 use Rattle.script_terms.specs.declared.line.Line.{Line}
-use Rattle.script_terms.specs.declared.line.Line.TheVariants.{Submit, Resubmit, Deliver, Lose, Settle, Mute, Unmute, ForgeOrder, ForgePrepare, ForgeCommit, ForgeRaw, Read, ShowMember, ShowVersion, ShowRecent}
+use Rattle.script_terms.specs.declared.line.Line.TheVariants.{Submit, Resubmit, Deliver, Lose, Settle, Mute, Unmute, ForgeOrder, ForgePrepare, ForgeCommit, ForgeHeart, ForgeRaw, Read, ShowMember, ShowClient, ShowVersion, ShowRecent}
 use Rattle.script_terms.specs.declared.script.Script.{Script}
 use Rattle.script_run.specs.States.{StandsNext, IsTurn}
 use Rattle.script_run.proofs.Turns.{next_same}
@@ -30,6 +30,7 @@ lost_next h script at sender to place site skips left turn same more =
 abbrev pub IsShow : Line → Type 0
 IsShow (Read client label) = Unit {0}
 IsShow (ShowMember member) = Unit {0}
+IsShow (ShowClient client) = Unit {0}
 IsShow (ShowVersion member label version) = Unit {0}
 IsShow ShowRecent = Unit {0}
 IsShow line = ⊥
@@ -38,6 +39,7 @@ IsShow line = ⊥
 pub shown_next : (h : List ℕ → List ℕ) (script : Script) (at : ℕ) (line : Line) (site : SiteView) (skips : Skips) → IsShow line → IsTurn h script at line site skips → StandsNext h script at site skips
 shown_next h script at (Read client label) site skips is turn = next_same h script at (Read client label) site skips skips turn refl refl refl turn.stands.muted_are turn.stands.lost_are
 shown_next h script at (ShowMember member) site skips is turn = next_same h script at (ShowMember member) site skips skips turn refl refl refl turn.stands.muted_are turn.stands.lost_are
+shown_next h script at (ShowClient client) site skips is turn = next_same h script at (ShowClient client) site skips skips turn refl refl refl turn.stands.muted_are turn.stands.lost_are
 shown_next h script at (ShowVersion member label version) site skips is turn = next_same h script at (ShowVersion member label version) site skips skips turn refl refl refl turn.stands.muted_are turn.stands.lost_are
 shown_next h script at ShowRecent site skips is turn = next_same h script at ShowRecent site skips skips turn refl refl refl turn.stands.muted_are turn.stands.lost_are
 shown_next h script at (Submit client label clauses) site skips is turn = absurd is
@@ -50,4 +52,5 @@ shown_next h script at (Unmute party) site skips is turn = absurd is
 shown_next h script at (ForgeOrder member to seq client number) site skips is turn = absurd is
 shown_next h script at (ForgePrepare member to seq client number) site skips is turn = absurd is
 shown_next h script at (ForgeCommit member to seq client number) site skips is turn = absurd is
+shown_next h script at (ForgeHeart member to label version name) site skips is turn = absurd is
 shown_next h script at (ForgeRaw member to content) site skips is turn = absurd is

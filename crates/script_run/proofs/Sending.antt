@@ -12,7 +12,7 @@ use Rattle.script_events.specs.Events.{IsEventOf}
 use Rattle.script_requests.specs.Holding.{HoldsJust, IsClashOf}
 use Rattle.script_requests.proofs.Holds.{all_none, contains_none, holds_more}
 use Rattle.script_terms.specs.declared.line.Line.{Line}
-use Rattle.script_terms.specs.declared.line.Line.TheVariants.{Submit, Resubmit, Deliver, Lose, Settle, Mute, Unmute, ForgeOrder, ForgePrepare, ForgeCommit, ForgeRaw, Read, ShowMember, ShowVersion, ShowRecent}
+use Rattle.script_terms.specs.declared.line.Line.TheVariants.{Submit, Resubmit, Deliver, Lose, Settle, Mute, Unmute, ForgeOrder, ForgePrepare, ForgeCommit, ForgeHeart, ForgeRaw, Read, ShowMember, ShowClient, ShowVersion, ShowRecent}
 use Rattle.script_terms.specs.declared.script.Script.{Script}
 use Rattle.text_model.specs.Events.{ring_for, events_of, world_of}
 use Rattle.text_model.specs.Named.{named}
@@ -57,10 +57,13 @@ sent_next h script at line event site now skips turn is quiet grew stands = by l
         next_from h script at t.number (ForgePrepare member to seq client number) now skips t.here (just t.stands.holds) (here (ForgePrepare member to seq client number) t.number t.here) t.stands.muted_are t.stands.lost_are t.stands.requests
     by (ForgeCommit member to seq client number) t e =
         next_from h script at t.number (ForgeCommit member to seq client number) now skips t.here (just t.stands.holds) (here (ForgeCommit member to seq client number) t.number t.here) t.stands.muted_are t.stands.lost_are t.stands.requests
+    by (ForgeHeart member to label version name) t e =
+        next_from h script at t.number (ForgeHeart member to label version name) now skips t.here (just t.stands.holds) (here (ForgeHeart member to label version name) t.number t.here) t.stands.muted_are t.stands.lost_are t.stands.requests
     by (ForgeRaw member to content) t e =
         next_from h script at t.number (ForgeRaw member to content) now skips t.here (just t.stands.holds) (here (ForgeRaw member to content) t.number t.here) t.stands.muted_are t.stands.lost_are t.stands.requests
     by (Read client label) t e = absurd e
     by (ShowMember member) t e = absurd e
+    by (ShowClient client) t e = absurd e
     by (ShowVersion member label version) t e = absurd e
     by ShowRecent t e = absurd e
 

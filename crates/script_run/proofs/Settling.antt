@@ -32,7 +32,7 @@ use Rattle.script_run.proofs.Turns.{next_from, lines_more}
 use Rattle.script_run.proofs.Widening.{holds_wider, clash_among}
 
 -- each line that was run stands in the script
-lines_among : (lines : List Numbered) (at : ℕ) → AllByRecursion (Contains lines) (reverse (take at lines))
+pub lines_among : (lines : List Numbered) (at : ℕ) → AllByRecursion (Contains lines) (reverse (take at lines))
 lines_among lines at =
     Each-from_there (Contains lines) (reverse (take at lines))
     (λ line c. subst (λ ls. Contains ls line) (take-append-drop at lines) (Contains-append_left (take at lines) (drop at lines) line (in_reverse (take at lines) line c)))

@@ -27,7 +27,7 @@ use Rattle.ring_world.specs.declared.skips.Skips.{Skips}
 use Rattle.ring_world.specs.declared.state.World.{World}
 use Rattle.ring_world.specs.Worlds.{WorldStands}
 use Rattle.script_terms.specs.declared.line.Line.{Line}
-use Rattle.script_terms.specs.declared.line.Line.TheVariants.{Submit, Resubmit, Deliver, Lose, Settle, Mute, Unmute, ForgeOrder, ForgePrepare, ForgeCommit, ForgeRaw, Read, ShowMember, ShowVersion, ShowRecent}
+use Rattle.script_terms.specs.declared.line.Line.TheVariants.{Submit, Resubmit, Deliver, Lose, Settle, Mute, Unmute, ForgeOrder, ForgePrepare, ForgeCommit, ForgeHeart, ForgeRaw, Read, ShowMember, ShowClient, ShowVersion, ShowRecent}
 use Rattle.script_terms.specs.declared.script.Script.{Script}
 use Rattle.script_limits.specs.Limits.{IsMember, IsWithin, LineFits}
 use Rattle.script_limits.specs.Turns.{LinesFitInTurn}
@@ -190,19 +190,22 @@ prints_it h script at number line printed here is = λ other there.
 
 -- a line that shows nothing prints nothing
 pub nothing_printed : (h : List ℕ → List ℕ) (script : Script) (earlier : List Numbered) (line : Line) → ((client : ClientId) (label : List ℕ) → line ≡ Read client label → ⊥) → ((member : MemberId) → line ≡ ShowMember member → ⊥)
+    → ((client : ClientId) → line ≡ ShowClient client → ⊥)
     → ((member : MemberId) (label : List ℕ) (version : Version) → line ≡ ShowVersion member label version → ⊥) → (line ≡ ShowRecent → ⊥) → [] ≡ line_text h script earlier line
-nothing_printed h script earlier (Submit client label clauses) read member version recent = refl
-nothing_printed h script earlier (Resubmit client number) read member version recent = refl
-nothing_printed h script earlier (Deliver sender to place) read member version recent = refl
-nothing_printed h script earlier (Lose sender to place) read member version recent = refl
-nothing_printed h script earlier Settle read member version recent = refl
-nothing_printed h script earlier (Mute party) read member version recent = refl
-nothing_printed h script earlier (Unmute party) read member version recent = refl
-nothing_printed h script earlier (ForgeOrder by to seq client number) read member version recent = refl
-nothing_printed h script earlier (ForgePrepare by to seq client number) read member version recent = refl
-nothing_printed h script earlier (ForgeCommit by to seq client number) read member version recent = refl
-nothing_printed h script earlier (ForgeRaw by to content) read member version recent = refl
-nothing_printed h script earlier (Read client label) read member version recent = absurd (read client label refl)
-nothing_printed h script earlier (ShowMember shown) read member version recent = absurd (member shown refl)
-nothing_printed h script earlier (ShowVersion shown label number) read member version recent = absurd (version shown label number refl)
-nothing_printed h script earlier ShowRecent read member version recent = absurd (recent refl)
+nothing_printed h script earlier (Submit by label clauses) read member client version recent = refl
+nothing_printed h script earlier (Resubmit by number) read member client version recent = refl
+nothing_printed h script earlier (Deliver sender to place) read member client version recent = refl
+nothing_printed h script earlier (Lose sender to place) read member client version recent = refl
+nothing_printed h script earlier Settle read member client version recent = refl
+nothing_printed h script earlier (Mute party) read member client version recent = refl
+nothing_printed h script earlier (Unmute party) read member client version recent = refl
+nothing_printed h script earlier (ForgeOrder by to seq asker number) read member client version recent = refl
+nothing_printed h script earlier (ForgePrepare by to seq asker number) read member client version recent = refl
+nothing_printed h script earlier (ForgeCommit by to seq asker number) read member client version recent = refl
+nothing_printed h script earlier (ForgeHeart by to label version name) read member client shape recent = refl
+nothing_printed h script earlier (ForgeRaw by to content) read member client version recent = refl
+nothing_printed h script earlier (Read reader label) read member client version recent = absurd (read reader label refl)
+nothing_printed h script earlier (ShowMember shown) read member client version recent = absurd (member shown refl)
+nothing_printed h script earlier (ShowClient shown) read member client version recent = absurd (client shown refl)
+nothing_printed h script earlier (ShowVersion shown label number) read member client version recent = absurd (version shown label number refl)
+nothing_printed h script earlier ShowRecent read member client version recent = absurd (recent refl)

@@ -1,6 +1,7 @@
 -- The lines of a script, run one after the other.
-use Rattle.std.proofs.Common.{◌≡◌, ◌<◌, ◌≤◌, ◌+◌, inl, inr, ℕ, true, false, cond, Option, List, [], ◌∷◌, ◌++◌, length, take, drop, reverse, get_or, slice_get, Some, refl, sym, ◌∙◌, ap, subst, arith, append-nil, take-append-drop}
+use Rattle.std.proofs.Common.{◌≡◌, ◌<◌, ◌≤◌, ◌+◌, inl, inr, ℕ, true, false, cond, Option, List, [], ◌∷◌, ◌++◌, length, take, drop, reverse, get_or, slice_get, Some, Contains, refl, sym, ◌∙◌, ap, subst, arith, append-nil, take-append-drop}
 use Rattle.std.proofs.lemmas.Option.{slice_get-get_or, get_or_from_slice_get}
+use Rattle.std.specs.List.{AllByRecursion}
 use Rattle.std.specs.Io.KnownBytes.{Appends}
 use Rattle.std.proofs.KnownBytes.{Appends-trans, Appends-nil}
 use Rattle.std.proofs.lemmas.Grind.{common_steps}
@@ -19,11 +20,12 @@ use Rattle.script_run.specs.declared.running.End.TheVariants.{Done, WriteFault, 
 use Rattle.script_run.specs.Ends.{Taking, Takes, Says, EndsAt, IsClear, written_at}
 use Rattle.pond_world.specs.Sites.{SiteView}
 use Rattle.ring_world.specs.declared.skips.Skips.{Skips}
-use Rattle.script_agreement.specs.Laws.{ListsAreOne}
+use Rattle.script_agreement.specs.Laws.{ListsAreOne, BeliefsHold}
 use Rattle.script_events.specs.Laws.{SubmitsAreRequests}
 use Rattle.script_limits.specs.Limits.{SetupFits}
 use Rattle.script_run.specs.States.{StandsFor}
-use Rattle.script_run.proofs.Agreed.{one_list}
+use Rattle.script_run.proofs.Agreed.{one_list, beliefs_true}
+use Rattle.script_run.proofs.Settling.{lines_among}
 use Rattle.script_run.proofs.Ending.{Written, left_at, then_prefix, lines_from, before_more, written_none, written_more, written_all}
 
 -- the strings of a state do not clash
@@ -119,10 +121,14 @@ stands_more h script i line first then old passed new left s joined counted here
     }
 
 -- all lines
-pub says_done : SubmitsAreRequests → ListsAreOne → (h : List ℕ → List ℕ) (script : Script) (i : ℕ) (sink : Taking) (site : SiteView) (skips : Skips) → SetupFits script.setup → Stands h script i sink site skips → length script.lines ≤ i → Says h script sink Done
-says_done submits law h script i sink site skips setup s most =
-    let all : StandsFor h script (reverse script.lines) site skips = subst (λ lines. StandsFor h script (reverse lines) site skips) (whole script.lines most) s.stands in
-    ((written_all h script i sink.before sink.after s.written most, s.faults), state_clear h script (reverse script.lines) site skips all, one_list submits law h script (reverse script.lines) site skips setup all)
+pub says_done : SubmitsAreRequests → ListsAreOne → BeliefsHold → (h : List ℕ → List ℕ) (script : Script) (i : ℕ) (sink : Taking) (site : SiteView) (skips : Skips) → SetupFits script.setup → Stands h script i sink site skips → length script.lines ≤ i → Says h script sink Done
+says_done submits law beliefs h script i sink site skips setup s most =
+    let all : StandsFor h script (reverse script.lines) site skips = subst (λ lines. StandsFor h script (reverse lines) site skips) (whole script.lines most) s.stands in (
+      (written_all h script i sink.before sink.after s.written most, s.faults),
+      state_clear h script (reverse script.lines) site skips all,
+      one_list submits law h script (reverse script.lines) site skips setup all,
+      beliefs_true beliefs h script (reverse script.lines) site skips setup (subst (λ lines. AllByRecursion (Contains script.lines) (reverse lines)) (whole script.lines most) (lines_among script.lines i)) all,
+    )
   where
     whole : (lines : List Numbered) → length lines ≤ i → take i lines ≡ lines
     whole lines most = grind (arith, common_steps)

@@ -4,6 +4,7 @@ use Rattle.std.specs.Io.KnownBytes.{Appends}
 use Rattle.pond_base.specs.Outside.{Rose, AppendsPrefix}
 use Rattle.script_terms.specs.declared.script.Script.{Script}
 use Rattle.script_agreement.specs.OneList.{IsOneList}
+use Rattle.script_agreement.specs.Beliefs.{BeliefsAreTrue}
 use Rattle.script_run.specs.declared.running.End.{End}
 use Rattle.script_run.specs.declared.running.End.TheVariants.{Done, WriteFault, Clash, Memory}
 use Rattle.text_model.specs.Clashes.{NoClash, IsFirstClash, IsClash, has_clash}
@@ -30,9 +31,9 @@ TakesUntilFault sink text = AppendsPrefix sink.before sink.after text × Rose si
 abbrev pub IsClear : (List ℕ → List ℕ) → Script → List Numbered → Type 0
 IsClear h script before = NoClash h (named h script before)
 
--- What an end of a run says. Where it is done, what members executed is one list.
+-- What an end of a run says. Where it is done, what members executed is one list, and what clients believed is so.
 abbrev pub Says : (List ℕ → List ℕ) → Script → Taking → End → Type 0
-Says h script sink Done = Takes sink (text_of h script) × IsClear h script (reverse script.lines) × IsOneList h script (reverse script.lines)
+Says h script sink Done = Takes sink (text_of h script) × IsClear h script (reverse script.lines) × IsOneList h script (reverse script.lines) × BeliefsAreTrue h script (reverse script.lines)
 Says h script sink WriteFault = TakesUntilFault sink (text_of h script)
 Says h script sink (Clash line old new) = Takes sink (text_of h script) × IsFirstClash h script line old new
 Says h script sink Memory = AppendsPrefix sink.before sink.after (text_of h script)

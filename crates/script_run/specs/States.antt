@@ -8,6 +8,7 @@ use Rattle.ring_message.specs.declared.message.Message.{Message}
 use Rattle.ring_message.specs.Grammar.{MessageFits}
 use Rattle.ring_model.specs.Messages as model
 use Rattle.ring_model.specs.World.{World}
+use Rattle.object_model.specs.Trees.{object_name}
 use Rattle.message_model.specs.Meaning.{said}
 use Rattle.fold_model.specs.Folds.{namings_by}
 use Rattle.pond_node.specs.Standing.{NodeStands}
@@ -18,7 +19,7 @@ use Rattle.ring_world.specs.declared.skips.Skips.{Skips}
 use Rattle.ring_world.specs.Worlds.{WorldStands}
 use Rattle.pond_world.specs.Sites.{SiteView}
 use Rattle.script_terms.specs.declared.line.Line.{Line}
-use Rattle.script_terms.specs.declared.line.Line.TheVariants.{ForgeOrder, ForgePrepare, ForgeCommit}
+use Rattle.script_terms.specs.declared.line.Line.TheVariants.{ForgeOrder, ForgePrepare, ForgeCommit, ForgeHeart}
 use Rattle.script_terms.specs.declared.script.Script.{Script}
 use Rattle.script_limits.specs.Limits.{IsWithin}
 use Rattle.script_requests.specs.Holding.{HoldsJust}
@@ -62,6 +63,7 @@ abbrev pub Forges : (List ℕ → List ℕ) → model.Ring → World → Line �
 Forges h g w (ForgeOrder by whom seq client number) member to message = (by ≡ member) × (whom ≡ to) × (message ≡ model.PrePrepare seq.0 (asked_string g w client number))
 Forges h g w (ForgePrepare by whom seq client number) member to message = (by ≡ member) × (whom ≡ to) × (message ≡ model.Prepare seq.0 (h (asked_string g w client number)))
 Forges h g w (ForgeCommit by whom seq client number) member to message = (by ≡ member) × (whom ≡ to) × (message ≡ model.Commit seq.0 (h (asked_string g w client number)))
+Forges h g w (ForgeHeart by whom label version name) member to message = (by ≡ member) × (whom ≡ to) × (message ≡ model.Heart (object_name h label) version.0 name)
 Forges h g w line member to message = ⊥
 
 -- the line that comes has a faulty member send this message, which has a spelling

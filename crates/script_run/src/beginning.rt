@@ -1,16 +1,22 @@
 // The state before the first line.
-ghost use Rattle.std.specs.Prelude.{◌≡◌, ◌∷◌, ◌++◌, [], ℕ, List, IfOk, IfErr};
+ghost use Rattle.std.specs.Prelude.{◌≡◌, ◌∷◌, ◌++◌, [], ℕ, List, reverse, IfOk, IfErr, OnOk};
 ghost use Rattle.std.specs.List.{flat_map};
+ghost use Rattle.std.specs.Ordering.{nat_cmp};
+ghost use Rattle.std.specs.Cmp.Lexicographic.{slice_cmp};
+ghost use Rattle.std.specs.BTreeMap.{insert_entry};
 ghost use Rattle.script_limits.specs.Limits.{IsWithin};
-ghost use Rattle.object_model.specs.Trees.{version_strings};
+ghost use Rattle.object_model.specs.Trees.{object_name, version_strings};
 ghost use Rattle.pond_node.specs.Standing.{NodeStands};
 ghost use Rattle.ring_world.specs.Worlds.{WorldStands};
 ghost use Rattle.script_requests.specs.Holding.{HoldsAll, HoldsJust, IsClashOf};
 ghost use Rattle.text_model.specs.Events.{ring_for};
 ghost use Rattle.text_model.specs.Named.{label_strings, start_strings};
+ghost use Rattle.text_model.specs.Requests.{Numbered};
 ghost use Rattle.tree_format.specs.Strings.{label_string};
+ghost use Rattle.script_run.specs.Labels.{AreLabels};
 ghost use Rattle.script_run.specs.States.{StandsFor, namings_for};
 
+use crate::labels::Labels;
 use crate::state::State;
 use block_names::{Hash160, NameFault};
 use fold_model::ring_folds;
@@ -20,28 +26,31 @@ use ring_world::Skips;
 use script_events::setups_join;
 use script_terms::{Line, Script};
 use std::alloc::Global;
+use std::collections::BTreeMap;
 use tree_format::write_label;
 
 impl<H: Hash160 + Drop> State<H> {
     /// Before the first line: the root string of the empty version is named, and the label strings of
-    /// all events.
-    pub(crate) fn new(alloc: Global, script: &Script, hash: H) -> Result<State<H>, NameFault>
+    /// all events. The labels are given too.
+    pub(crate) fn new(
+        alloc: Global,
+        script: &Script,
+        hash: H,
+    ) -> Result<(State<H>, Labels), NameFault>
         requires { IsWithin script.now }
-        ensures stands { IfOk result (λ state. StandsFor H.naming script.now [] state.site state.skips) }
+        ensures stands { IfOk result (λ first. StandsFor H.naming script.now [] first.0.site first.0.skips) }
+        ensures labels { IfOk result (λ first. AreLabels H.naming first.1.entries (reverse script.now.lines)) }
         ensures fault { IfErr result (IsClashOf H.naming (start_strings H.naming script.now)) }
     {
         setups_join();
         let site = Site::open(alloc, hash, &script.setup)?;
         holds_empty(&site, script);
-        let site = with_labels(alloc, site, script.lines.as_slice())?;
-        Ok(State {
-            alloc,
-            site,
-            skips: Skips {
-                muted: Vec::new(alloc),
-                lost: Vec::new(alloc),
-            },
-        })
+        let (site, labels) = with_labels(alloc, site, script.lines.as_slice())?;
+        let skips = Skips {
+            muted: Vec::new(alloc),
+            lost: Vec::new(alloc),
+        };
+        Ok((State { alloc, site, skips }, labels))
     }
 }
 
@@ -54,36 +63,41 @@ fn holds_empty<H: Hash160 + Drop>(site: &Site<H>, script: &Script)
     let _objects = site.world().committed().objects();
 }
 
-// With the label strings of events named.
+// With the label strings of events named, and the labels.
 fn with_labels<H: Hash160 + Drop>(
     alloc: Global,
     site: Site<H>,
     lines: &[(u32, Line)],
-) -> Result<Site<H>, NameFault>
-    ensures world { IfOk result (λ now. now.world ≡ site.world) }
-    ensures holds { IfOk result (λ now. (strings : List (List ℕ)) → HoldsJust H.naming site.held strings → HoldsJust H.naming now.held (strings ++ flat_map label_strings lines.now)) }
+) -> Result<(Site<H>, Labels), NameFault>
+    ensures world { IfOk result (λ now. now.0.world ≡ site.world) }
+    ensures holds { IfOk result (λ now. (strings : List (List ℕ)) → HoldsJust H.naming site.held strings → HoldsJust H.naming now.0.held (strings ++ flat_map label_strings lines.now)) }
+    ensures labels { IfOk result (λ now. AreLabels H.naming now.1.entries (reverse lines.now)) }
     ensures fault { IfErr result (λ fault. (strings : List (List ℕ)) → HoldsJust H.naming site.held strings → IsClashOf H.naming (strings ++ flat_map label_strings lines.now) fault) }
 {
     let mut named = site;
+    let mut labels = BTreeMap::new(alloc);
     for (_, line) in lines {
-        named = with_label(alloc, named, line)?;
+        named = with_label(alloc, named, &mut labels, line)?;
     }
-    Ok(named)
+    Ok((named, labels))
 }
 
 fn with_label<H: Hash160 + Drop>(
     alloc: Global,
     site: Site<H>,
+    labels: &mut Labels,
     line: &Line,
 ) -> Result<Site<H>, NameFault>
     ensures world { IfOk result (λ now. now.world ≡ site.world) }
     ensures holds { IfOk result (λ now. (number : ℕ) (strings : List (List ℕ)) → HoldsJust H.naming site.held strings → HoldsJust H.naming now.held (strings ++ label_strings (number, line.now))) }
+    ensures labels { OnOk result ((number : ℕ) (lines : List Numbered) → AreLabels H.naming labels.old.entries lines → AreLabels H.naming labels.new.entries ((number, line.now) ∷ lines)) }
     ensures fault { IfErr result (λ fault. (number : ℕ) (strings : List (List ℕ)) → HoldsJust H.naming site.held strings → IsClashOf H.naming (strings ++ label_strings (number, line.now)) fault) }
 {
     match line {
-        Line::Submit { label, .. } => with_label_named(alloc, site, label),
-        Line::Read { label, .. } => with_label_named(alloc, site, label),
-        Line::ShowVersion { label, .. } => with_label_named(alloc, site, label),
+        Line::Submit { label, .. } => with_label_named(alloc, site, labels, label),
+        Line::ForgeHeart { label, .. } => with_label_named(alloc, site, labels, label),
+        Line::Read { label, .. } => with_label_named(alloc, site, labels, label),
+        Line::ShowVersion { label, .. } => with_label_named(alloc, site, labels, label),
         _ => Ok(site),
     }
 }
@@ -91,12 +105,18 @@ fn with_label<H: Hash160 + Drop>(
 fn with_label_named<H: Hash160 + Drop>(
     alloc: Global,
     site: Site<H>,
+    labels: &mut Labels,
     label: &Label,
 ) -> Result<Site<H>, NameFault>
     ensures world { IfOk result (λ now. now.world ≡ site.world) }
     ensures holds { IfOk result (λ now. (strings : List (List ℕ)) → HoldsJust H.naming site.held strings → HoldsJust H.naming now.held (strings ++ label_string label.now ∷ [])) }
+    ensures labels { OnOk result (labels.new.entries ≡ insert_entry (slice_cmp nat_cmp) labels.old.entries label.now (object_name H.naming label.now)) }
     ensures fault { IfErr result (λ fault. (strings : List (List ℕ)) → HoldsJust H.naming site.held strings → IsClashOf H.naming (strings ++ label_string label.now ∷ []) fault) }
 {
     let string = write_label(alloc, label)?;
-    site.name(string.as_slice())
+    let (site, name) = site.name(string.as_slice())?;
+    let Ok(_) = labels.insert(*label, name) else {
+        return Err(NameFault::Memory);
+    };
+    Ok(site)
 }

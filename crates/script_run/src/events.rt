@@ -1,5 +1,5 @@
 // Lines that are events of the world.
-ghost use Rattle.std.specs.Prelude.{◌≡◌, ◌+◌, ◌<◌, length, Contains, IfOk, IfErr};
+ghost use Rattle.std.specs.Prelude.{◌≡◌, ◌+◌, ◌<◌, length, reverse, Contains, IfOk, IfErr};
 ghost use Rattle.block_names.specs.Growth.{Grew};
 ghost use Rattle.pond_node.specs.Standing.{NodeStands};
 ghost use Rattle.pond_world.specs.Sites.{IsClashAfter};
@@ -12,8 +12,10 @@ ghost use Rattle.text_model.specs.Named.{named, committed_strings};
 ghost use Rattle.text_model.specs.Requests.{Numbered};
 ghost use Rattle.script_terms.specs.declared.script.Script.{Script};
 ghost use Rattle.std.specs.Prelude.{List, ℕ};
+ghost use Rattle.script_run.specs.Labels.{AreLabels};
 ghost use Rattle.script_run.specs.States.{StandsFor, StandsNext, IsTurn, IsComing, IsQuiet, lines_before, namings_for};
 
+use crate::labels::Labels;
 use crate::state::State;
 use block_names::{Hash160, NameFault};
 use fold_model::ring_folds;
@@ -27,8 +29,14 @@ use script_terms::{Line, Script};
 
 impl<H: Hash160 + Drop> State<H> {
     /// The state after the line at a place.
-    pub(crate) fn after(self, script: &Script, at: usize) -> Result<State<H>, NameFault>
+    pub(crate) fn after(
+        self,
+        labels: &Labels,
+        script: &Script,
+        at: usize,
+    ) -> Result<State<H>, NameFault>
         requires within { IsWithin script.now }
+        requires labels { AreLabels H.naming labels.now.entries (reverse script.now.lines) }
         requires here { at < length script.now.lines }
         requires stands { StandsFor H.naming script.now (lines_before script.now at) self.site self.skips }
         ensures stands { IfOk result (λ state. StandsNext H.naming script.now at state.site state.skips) }
@@ -68,11 +76,19 @@ impl<H: Hash160 + Drop> State<H> {
                 client,
                 number,
             } => self.forged_commit(script, at, *member, *to, *seq, *client, *number),
+            Line::ForgeHeart {
+                member,
+                to,
+                label,
+                version,
+                name,
+            } => self.forged_heart(labels, script, at, *member, *to, label, *version, *name),
             Line::ForgeRaw { member, to, bytes } => self.forged_raw(
                 script, at, *member, *to, bytes,
             ),
             Line::Read { .. }
             | Line::ShowMember { .. }
+            | Line::ShowClient { .. }
             | Line::ShowVersion { .. }
             | Line::ShowRecent => Ok(self),
         }

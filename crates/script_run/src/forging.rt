@@ -1,17 +1,19 @@
 // What faulty members send.
-ghost use Rattle.std.specs.Prelude.{◌≡◌, ◌+◌, IfOk, IfErr};
+ghost use Rattle.std.specs.Prelude.{◌≡◌, ◌+◌, reverse, IfOk, IfErr};
 ghost use Rattle.script_limits.specs.Limits.{HasSent, IsWithin};
 ghost use Rattle.script_requests.specs.Holding.{IsClashOf};
-ghost use Rattle.script_terms.specs.declared.line.Line.TheVariants.{ForgeOrder, ForgePrepare, ForgeCommit, ForgeRaw};
+ghost use Rattle.script_terms.specs.declared.line.Line.TheVariants.{ForgeOrder, ForgePrepare, ForgeCommit, ForgeHeart, ForgeRaw};
 ghost use Rattle.text_model.specs.Events.{ring_for, world_of, asked_string};
 ghost use Rattle.text_model.specs.Named.{named};
+ghost use Rattle.script_run.specs.Labels.{AreLabels};
 ghost use Rattle.script_run.specs.States.{StandsFor, StandsNext, IsTurn, IsForgery, lines_before};
 
+use crate::labels::{Labels, object_of};
 use crate::state::State;
 use block_names::{Hash160, NameFault};
 use bytes::Bytes;
 use message_model::messages_are_meant;
-use pond_base::{ClientId, MemberId, Name, OutOfMemory, Party, Seq};
+use pond_base::{ClientId, Label, MemberId, Name, OutOfMemory, Party, Seq, Version};
 use pond_world::{Site, worlds_stay_known};
 use ring_message::{Message, write};
 use ring_world::Event;
@@ -85,6 +87,38 @@ impl<H: Hash160 + Drop> State<H> {
         lines_fit_in_turn();
         let (state, name) = self.asked_name(script, at, client, number)?;
         state.forged(script, at, member, to, &Message::Commit { seq, name })
+    }
+
+    /// It sends a heart: that a version of a label's object has a root of this name.
+    pub(crate) fn forged_heart(
+        self,
+        labels: &Labels,
+        script: &Script,
+        at: usize,
+        member: MemberId,
+        to: Party,
+        label: &Label,
+        version: Version,
+        name: Name,
+    ) -> Result<State<H>, NameFault>
+        requires turn { IsTurn H.naming script.now at (ForgeHeart member to label.now version name) self.site self.skips }
+        requires labels { AreLabels H.naming labels.now.entries (reverse script.now.lines) }
+        ensures stands { IfOk result (λ state. StandsNext H.naming script.now at state.site state.skips) }
+        ensures fault { IfErr result (IsClashOf H.naming (named H.naming script.now (lines_before script.now (at + 1)))) }
+    {
+        lines_fit_in_turn();
+        let object = object_of(labels, label);
+        self.forged(
+            script,
+            at,
+            member,
+            to,
+            &Message::Heart {
+                object,
+                version,
+                name,
+            },
+        )
     }
 
     /// It sends any bytes.

@@ -12,6 +12,7 @@
 mod beginning;
 mod events;
 mod forging;
+mod labels;
 mod passing;
 mod printing;
 mod running;

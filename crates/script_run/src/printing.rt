@@ -1,15 +1,16 @@
 // What lines print.
-ghost use Rattle.std.specs.Prelude.{◌≡◌, ◌<◌, length, string_bytes, IfOk};
+ghost use Rattle.std.specs.Prelude.{◌≡◌, ◌<◌, length, reverse, string_bytes, IfOk};
 ghost use Rattle.script_limits.specs.Limits.{IsWithin};
-ghost use Rattle.pond_base.specs.declared.numbers.ClientId.{ClientId};
-ghost use Rattle.script_terms.specs.declared.line.Line.TheVariants.{Read, ShowMember, ShowVersion, ShowRecent};
+ghost use Rattle.script_terms.specs.declared.line.Line.TheVariants.{Read, ShowMember, ShowClient, ShowVersion, ShowRecent};
 ghost use Rattle.text_model.specs.Text.{line_text};
+ghost use Rattle.script_run.specs.Labels.{AreLabels};
 ghost use Rattle.script_run.specs.States.{StandsFor, IsTurn, PrintsAt, lines_before};
 
+use crate::labels::{Labels, object_of};
 use crate::state::State;
 use block_names::Hash160;
 use fold_model::ring_folds;
-use pond_base::{Label, MemberId, OutOfMemory, Version};
+use pond_base::{ClientId, Label, MemberId, OutOfMemory, Version};
 use script_events::{setups_join, submits_are_requests};
 use script_limits::lines_fit_in_turn;
 use script_printing as printing;
@@ -18,18 +19,21 @@ use script_terms::{Line, Script};
 /// What the line at a place prints.
 pub(crate) fn line_text<H: Hash160 + Drop>(
     state: &State<H>,
+    labels: &Labels,
     script: &Script,
     at: usize,
 ) -> Result<String, OutOfMemory>
     requires within { IsWithin script.now }
+    requires labels { AreLabels H.naming labels.now.entries (reverse script.now.lines) }
     requires here { at < length script.now.lines }
     requires stands { StandsFor H.naming script.now (lines_before script.now at) state.now.site state.now.skips }
     ensures { IfOk result (λ printed. PrintsAt H.naming script.now at (string_bytes printed)) }
 {
     let (_, line) = &script.lines.as_slice()[at];
     match line {
-        Line::Read { label, .. } => read_text(state, script, at, label),
+        Line::Read { client, label } => read_text(state, labels, script, at, *client, label),
         Line::ShowMember { member } => member_text(state, script, at, *member),
+        Line::ShowClient { client } => client_text(state, labels, script, at, *client),
         Line::ShowVersion {
             member,
             label,
@@ -40,21 +44,46 @@ pub(crate) fn line_text<H: Hash160 + Drop>(
     }
 }
 
-// What a read prints: the last version of the label that the committed list makes.
+// What a read prints: the version of the label that is the client's heart, as the committed list makes
+// it.
 fn read_text<H: Hash160 + Drop>(
     state: &State<H>,
+    labels: &Labels,
     script: &Script,
     at: usize,
+    client: ClientId,
     label: &Label,
 ) -> Result<String, OutOfMemory>
-    requires within { IsWithin script.now }
-    requires stands { StandsFor H.naming script.now (lines_before script.now at) state.now.site state.now.skips }
-    ensures { IfOk result (λ printed. (client : ClientId) → string_bytes printed ≡ line_text H.naming script.now (lines_before script.now at) (Read client label.now)) }
+    requires turn { IsTurn H.naming script.now at (Read client label.now) state.now.site state.now.skips }
+    requires labels { AreLabels H.naming labels.now.entries (reverse script.now.lines) }
+    ensures { IfOk result (λ printed. string_bytes printed ≡ line_text H.naming script.now (lines_before script.now at) (Read client label.now)) }
 {
+    lines_fit_in_turn();
     setups_join();
     ring_folds();
+    let hearts = state.site.client(client).hearts();
+    let heart = hearts.newest(object_of(labels, label));
     let objects = state.site.world().committed().objects();
-    printing::read_text(state.alloc, objects, label)
+    printing::read_text(state.alloc, objects, label, heart)
+}
+
+// What is shown of a client.
+fn client_text<H: Hash160 + Drop>(
+    state: &State<H>,
+    labels: &Labels,
+    script: &Script,
+    at: usize,
+    client: ClientId,
+) -> Result<String, OutOfMemory>
+    requires turn { IsTurn H.naming script.now at (ShowClient client) state.now.site state.now.skips }
+    requires labels { AreLabels H.naming labels.now.entries (reverse script.now.lines) }
+    ensures { IfOk result (λ printed. string_bytes printed ≡ line_text H.naming script.now (lines_before script.now at) (ShowClient client)) }
+{
+    lines_fit_in_turn();
+    setups_join();
+    submits_are_requests();
+    let known = state.site.client(client);
+    printing::client_text(state.alloc, client, known, labels)
 }
 
 // What is shown of a member.

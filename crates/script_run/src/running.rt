@@ -1,5 +1,5 @@
 // A run of a script.
-ghost use Rattle.std.specs.Prelude.{◌≡◌, ◌∷◌, ◌<◌, List, ℕ, length, slice_get, Some, true, IfOk, IfErr, string_bytes};
+ghost use Rattle.std.specs.Prelude.{◌≡◌, ◌∷◌, ◌<◌, List, ℕ, length, reverse, slice_get, Some, true, IfOk, IfErr, string_bytes};
 ghost use Rattle.script_limits.specs.Limits.{IsWithin};
 ghost use Rattle.script_requests.specs.Holding.{IsClashOf};
 ghost use Rattle.text_model.specs.Clashes.{has_clash};
@@ -7,14 +7,16 @@ ghost use Rattle.text_model.specs.Named.{named};
 ghost use Rattle.text_model.specs.Requests.{Numbered};
 ghost use Rattle.text_model.specs.Text as model;
 ghost use Rattle.script_run.specs.Ends.{Says, EndsAt, Takes, written_at};
+ghost use Rattle.script_run.specs.Labels.{AreLabels};
 ghost use Rattle.script_run.specs.States.{StandsFor, StandsNext, lines_before};
 
+use crate::labels::Labels;
 use crate::printing::line_text;
 use crate::state::State;
 use block_names::{Hash160, NameFault};
 use bytes::Bytes;
 use pond_base::{OutOfMemory, Sink, write_whole};
-use script_agreement::lists_are_one;
+use script_agreement::{beliefs_are_true, lists_are_one};
 use script_events::submits_are_requests;
 use script_terms::Script;
 use std::alloc::Global;
@@ -24,7 +26,7 @@ use std::thread::Threads;
 #[derive(Debug, Drop)]
 pub enum End {
     /// The whole text was taken by the sink, and no two strings clash. What correct members executed
-    /// after any of the lines is how one list began, which only grew.
+    /// after any of the lines is how one list began, which only grew, and what clients believed is so.
     Done,
     /// A take of the sink failed. A prefix of the text was taken.
     WriteFault,
@@ -57,12 +59,13 @@ pub fn run<R: Threads, H: Hash160 + Drop, K: Sink>(
 {
     submits_are_requests();
     lists_are_one();
-    let mut state = match State::new(alloc, script, hash) {
-        Ok(state) => state,
+    beliefs_are_true();
+    let (mut state, labels) = match State::new(alloc, script, hash) {
+        Ok(first) => first,
         Err(fault) => return end_at(alloc, 0, fault, sink),
     };
     for at in 0..script.lines.len() {
-        state = match after_line(state, alloc, script, at, sink) {
+        state = match after_line(state, alloc, &labels, script, at, sink) {
             Ok(state) => state,
             Err(end) => return end,
         };
@@ -74,11 +77,13 @@ pub fn run<R: Threads, H: Hash160 + Drop, K: Sink>(
 fn after_line<H: Hash160 + Drop, K: Sink>(
     state: State<H>,
     alloc: Global,
+    labels: &Labels,
     script: &Script,
     at: usize,
     sink: &mut K,
 ) -> Result<State<H>, End>
     requires within { IsWithin script.now }
+    requires labels { AreLabels H.naming labels.now.entries (reverse script.now.lines) }
     requires here { at < length script.now.lines }
     requires stands { StandsFor H.naming script.now (lines_before script.now at) state.site state.skips }
     ensures stands { IfOk result (λ after. StandsNext H.naming script.now at after.site after.skips) }
@@ -97,10 +102,10 @@ fn after_line<H: Hash160 + Drop, K: Sink>(
         }) end) }
 {
     let number = script.lines.as_slice()[at].0;
-    let Ok(text) = line_text(&state, script, at) else {
+    let Ok(text) = line_text(&state, labels, script, at) else {
         return Err(End::Memory);
     };
-    let state = match state.after(script, at) {
+    let state = match state.after(labels, script, at) {
         Ok(state) => state,
         Err(fault) => return Err(end_at(alloc, number, fault, sink)),
     };

@@ -1,7 +1,7 @@
 // The events of a script.
 use bytes::Bytes;
 use guarded_update::Action;
-use pond_base::{ClientId, Items, Label, MemberId, Party, Seq, Version};
+use pond_base::{ClientId, Items, Label, MemberId, Name, Party, Seq, Version};
 
 /// An event of a script.
 #[derive(Debug, Drop)]
@@ -63,6 +63,14 @@ pub enum Line {
         client: ClientId,
         number: u32,
     },
+    /// It sends a heart: that the version of the label's object has the root of this name.
+    ForgeHeart {
+        member: MemberId,
+        to: Party,
+        label: Label,
+        version: Version,
+        name: Name,
+    },
     /// It sends any bytes.
     ForgeRaw {
         member: MemberId,
@@ -77,6 +85,10 @@ pub enum Line {
     /// What the member executed is shown.
     ShowMember {
         member: MemberId,
+    },
+    /// What the client believes is shown.
+    ShowClient {
+        client: ClientId,
     },
     /// What the member holds of the version is shown.
     ShowVersion {

@@ -106,9 +106,9 @@ said_rank verbs.Settle words item e = by_form (λ x. rank x ≡ 9) (forms verbs.
 said_rank verbs.Mute words item e = by_form (λ x. rank x ≡ 9) (forms verbs.Mute) words item (λ _. refl, tt) e
 said_rank verbs.Unmute words item e = by_form (λ x. rank x ≡ 9) (forms verbs.Unmute) words item (λ _. refl, tt) e
 said_rank verbs.Forge words item e =
-    by_form (λ x. rank x ≡ 9) (forms verbs.Forge) words item (λ _ _ _ _ _. refl, (λ _ _ _ _ _. refl, (λ _ _ _ _ _. refl, (λ _ _ _. refl, tt)))) e
+    by_form (λ x. rank x ≡ 9) (forms verbs.Forge) words item (λ _ _ _ _ _. refl, (λ _ _ _ _ _. refl, (λ _ _ _ _ _. refl, (λ _ _ _ _ _. refl, (λ _ _ _. refl, tt))))) e
 said_rank verbs.Read words item e = by_form (λ x. rank x ≡ 9) (forms verbs.Read) words item (λ _ _. refl, tt) e
-said_rank verbs.Show words item e = by_form (λ x. rank x ≡ 9) (forms verbs.Show) words item (λ _. refl, (λ _ _ _. refl, (refl, tt))) e
+said_rank verbs.Show words item e = by_form (λ x. rank x ≡ 9) (forms verbs.Show) words item (λ _. refl, (λ _. refl, (λ _ _ _. refl, (refl, tt)))) e
 
 -- what a verb's words say behind earlier lines, where its lines may stand there
 pub says_by : (earlier : List Item) (word : List ℕ) (words : List (List ℕ)) (verb : Verb) (k : Known) → verb_of word ≡ Some verb → in_order (known earlier).last (rank_of verb) ≡ true → k ≡ known earlier

@@ -1,5 +1,5 @@
 // The forms of events that settle, read, show and send again.
-ghost use Rattle.std.specs.Prelude.{◌≡◌, ◌∷◌, []};
+ghost use Rattle.std.specs.Prelude.{◌≡◌, ◌∷◌, [], codes};
 ghost use Rattle.script_terms.specs.declared.verb.Verb.TheVariants as verbs;
 ghost use Rattle.script_grammar.specs.Forms.{said};
 ghost use Rattle.script_grammar.specs.Known as spec;
@@ -50,13 +50,13 @@ pub(crate) fn read(known: &Known, words: &[&[u8]]) -> Result<Item, LineFault>
     Ok(Item::Event(Line::Read { client, label }))
 }
 
-/// `show member I`, `show version I LABEL V`, `show recent`
+/// `show member I`, `show client C`, `show version I LABEL V`, `show recent`
 pub(crate) fn show(known: &Known, words: &[&[u8]]) -> Result<Item, LineFault>
     ensures { Gives (λ x. x) result (checked known.now (said verbs.Show (texts words.now))) }
 {
     match words {
         [what] => show_recent(what),
-        [what, member] => show_member(known, what, member),
+        [what, number] => show_party(known, what, number),
         [what, member, object, version] => show_version(known, what, member, object, version),
         _ => Err(refused::WORDS),
     }
@@ -71,15 +71,32 @@ fn show_recent(what: &[u8]) -> Result<Item, LineFault>
     Ok(Item::Event(Line::ShowRecent))
 }
 
-fn show_member(known: &Known, what: &[u8], member: &[u8]) -> Result<Item, LineFault>
-    ensures { Gives (λ x. x) result (checked known.now (said verbs.Show (what.now ∷ member.now ∷ []))) }
+fn show_party(known: &Known, what: &[u8], number: &[u8]) -> Result<Item, LineFault>
+    ensures { Gives (λ x. x) result (checked known.now (said verbs.Show (what.now ∷ number.now ∷ []))) }
 {
-    if what != b"member".as_slice() {
-        return Err(refused::WORDS);
+    if what == b"member".as_slice() {
+        return show_member(known, number);
     }
+    if what == b"client".as_slice() {
+        return show_client(known, number);
+    }
+    Err(refused::WORDS)
+}
+
+fn show_member(known: &Known, member: &[u8]) -> Result<Item, LineFault>
+    ensures { Gives (λ x. x) result (checked known.now (said verbs.Show (codes "member" ∷ member.now ∷ []))) }
+{
     let member = number(member)?;
     let member = known.member(member)?;
     Ok(Item::Event(Line::ShowMember { member }))
+}
+
+fn show_client(known: &Known, client: &[u8]) -> Result<Item, LineFault>
+    ensures { Gives (λ x. x) result (checked known.now (said verbs.Show (codes "client" ∷ client.now ∷ []))) }
+{
+    let number = number(client)?;
+    let client = known.client(number)?;
+    Ok(Item::Event(Line::ShowClient { client }))
 }
 
 fn show_version(

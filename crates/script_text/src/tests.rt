@@ -112,7 +112,9 @@ fn words_come_fourth(rt: HostRuntime) -> Result<(), Fail> {
         (b"pond 1\nring 0\nshow\n", "3 words"),
         (b"pond 1\nring 0\nshow recents\n", "3 words"),
         (b"pond 1\nring 0\nshow recent 0\n", "3 words"),
-        (b"pond 1\nring 0\nshow client A\n", "3 words"),
+        (b"pond 1\nring 0\nshow clients A\n", "3 words"),
+        (b"pond 1\nring 0\nshow client\n", "3 words"),
+        (b"pond 1\nring 0\nshow client A 0\n", "3 words"),
         (b"pond 1\nring 0\nshow member\n", "3 words"),
         (b"pond 1\nring 0\nshow member 0 0\n", "3 words"),
         (b"pond 1\nring 0\nshow version 0 a\n", "3 words"),
@@ -123,7 +125,9 @@ fn words_come_fourth(rt: HostRuntime) -> Result<(), Fail> {
         (b"pond 1\nring 0\nresubmit 0\n", "3 words"),
         (b"pond 1\nring 0\nlose x y\n", "3 words"),
         (b"pond 1\nring 0\nmute x y\n", "3 words"),
-        (b"pond 1\nring 0\nforge x y heart A 0 z\n", "3 words"),
+        (b"pond 1\nring 0\nforge x y hearts A 0 z\n", "3 words"),
+        (b"pond 1\nring 0\nforge x y heart A 0\n", "3 words"),
+        (b"pond 1\nring 0\nforge x y heart A\n", "3 words"),
         (b"pond 1\nring 0\nforge x y sealed A 0 z\n", "3 words"),
         (b"pond 1\nring 0\nforge x y order z\n", "3 words"),
         (b"pond 1\nring 0\nforge x y raw 0 0 1\n", "3 words"),
@@ -198,6 +202,7 @@ fn classes_come_fifth(rt: HostRuntime) -> Result<(), Fail> {
             "3 word",
         ),
         (b"pond 1\nring 0\nshow member m0\n", "3 word"),
+        (b"pond 1\nring 0\nshow client c0\n", "3 word"),
         (b"pond 1\nring 0\nshow version 9 a x\n", "3 word"),
         (b"pond 1\nring 0\nsubmit 9 a append 6\n", "3 word"),
         (b"pond 1\nring 0\nsubmit 0 a append 6g\n", "3 word"),
@@ -223,6 +228,18 @@ fn classes_come_fifth(rt: HostRuntime) -> Result<(), Fail> {
         (b"pond 1\nring 0\nmute m4294967296\n", "3 word"),
         (b"pond 1\nring 0\nforge 0 m0 commit 0 0 x\n", "3 word"),
         (b"pond 1\nring 0\nforge 0 m9 raw 000\n", "3 word"),
+        (
+            b"pond 1\nring 0\nforge 9 c9 heart a 0 00112233445566778899aAbBcCdDeEfF0123456\n",
+            "3 word",
+        ),
+        (
+            b"pond 1\nring 0\nforge 9 c9 heart a 0 00112233445566778899aAbBcCdDeEfF0123456g\n",
+            "3 word",
+        ),
+        (
+            b"pond 1\nring 0\nforge 9 c9 heart A 0 00112233445566778899aAbBcCdDeEfF01234567\n",
+            "3 word",
+        ),
     ];
     for (text, wanted) in cases {
         assert_eq!(rt; told(alloc, text)?.as_str(), wanted);
@@ -244,6 +261,8 @@ fn ranges_come_sixth(rt: HostRuntime) -> Result<(), Fail> {
         (b"pond 1\nring 0\nread 1 a\n", "3 range"),
         (b"pond 1\nring 0\nclients 2\nread 2 a\n", "4 range"),
         (b"pond 1\nring 0\nshow member 1\n", "3 range"),
+        (b"pond 1\nring 0\nshow client 1\n", "3 range"),
+        (b"pond 1\nring 0\nclients 2\nshow client 2\n", "4 range"),
         (b"pond 1\nring 0\nshow version 1 a 1\n", "3 range"),
         (b"pond 1\nring 0\nshow version 0 a 0\n", "3 range"),
         (
@@ -310,6 +329,18 @@ fn ranges_of_rings(rt: HostRuntime) -> Result<(), Fail> {
         (
             b"pond 1\nring 1\nfaulty 1\nsubmit 0 a append 61\nforge 2 m0 prepare 1 0 1\n",
             "5 range",
+        ),
+        (
+            b"pond 1\nring 1\nfaulty 1\nforge 2 c0 heart a 1 00112233445566778899aAbBcCdDeEfF01234567\n",
+            "4 range",
+        ),
+        (
+            b"pond 1\nring 1\nfaulty 1\nforge 1 c1 heart a 1 00112233445566778899aAbBcCdDeEfF01234567\n",
+            "4 range",
+        ),
+        (
+            b"pond 1\nring 1\nfaulty 1\nforge 1 c0 heart a 0 00112233445566778899aAbBcCdDeEfF01234567\n",
+            "4 range",
         ),
     ];
     for (text, wanted) in cases {
@@ -406,6 +437,10 @@ fn scripts_within_all_limits(rt: HostRuntime) -> Result<(), Fail> {
         (
             b"pond 1\nring 1\nfaulty 3\nsubmit 0 a append 61\nforge 3 m0 order 1 0 1\nforge 3 m3 prepare 65536 0 1\nforge 3 c0 commit 1 0 1\nforge 3 m1 raw 12\n",
             "5 events",
+        ),
+        (
+            b"pond 1\nring 1\nfaulty 3\nclients 2\nforge 3 c1 heart a 1 00112233445566778899aAbBcCdDeEfF01234567\nforge 3 m3 heart a_1 4294967295 00112233445566778899aabbccddeeff01234567\nshow client 1\n",
+            "3 events",
         ),
     ];
     for (text, wanted) in cases {
@@ -514,10 +549,15 @@ fn counted_limits(rt: HostRuntime) -> Result<(), Fail> {
         assert_eq!(rt; told(alloc, &text)?.as_str(), wanted);
     }
     let sent = b"pond 1\nring 1\nfaulty 3\nsubmit 0 a append 61\n".as_slice();
-    let again: [(&[u8], u32, &str); 4] = [
+    let again: [(&[u8], u32, &str); 5] = [
         (b"resubmit 0 1\n", 1_023, "1024 events"),
         (b"resubmit 0 1\n", 1_024, "1028 full"),
         (b"forge 3 m0 prepare 1 0 1\n", 1_024, "1028 full"),
+        (
+            b"forge 3 c0 heart a 1 00112233445566778899aAbBcCdDeEfF01234567\n",
+            1_024,
+            "1028 full",
+        ),
         (b"forge 3 m0 raw 00\n", 1_024, "1028 full"),
     ];
     for (line, count, wanted) in again {

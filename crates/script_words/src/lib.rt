@@ -8,6 +8,7 @@
 mod contents;
 mod labels;
 mod lines;
+mod names;
 mod numbers;
 mod parties;
 #[cfg(test)]
@@ -16,5 +17,6 @@ mod tests;
 pub use contents::data;
 pub use labels::label;
 pub use lines::{is_comment, is_plain_line, split_line, words};
+pub use names::name;
 pub use numbers::number;
 pub use parties::{PartyNumber, party};

@@ -1,5 +1,6 @@
 // Lines, their words, and the classes of words.
 use super::*;
+use pond_base::Name;
 use std::test::Fail;
 
 #[test]
@@ -59,6 +60,28 @@ fn labels(rt: HostRuntime) -> Result<(), Fail> {
         Err(_) => panic!(rt; "it is a label"),
     }
     assert!(rt; label(b"A").is_err());
+    Ok(())
+}
+
+#[test]
+fn names(rt: HostRuntime) -> Result<(), Fail> {
+    let wanted = Name::from_bytes(
+        *b"\x00\x11\x22\x33\x44\x55\x66\x77\x88\x99\xaa\xbb\xcc\xdd\xee\xff\x01\x23\x45\x67",
+    );
+    let cases = [
+        (
+            b"00112233445566778899aAbBcCdDeEfF01234567".as_slice(),
+            Some(wanted),
+        ),
+        (b"00112233445566778899aAbBcCdDeEfF0123456", None),
+        (b"00112233445566778899aAbBcCdDeEfF012345678", None),
+        (b"00112233445566778899aAbBcCdDeEfF0123456789", None),
+        (b"00112233445566778899aAbBcCdDeEfF0123456g", None),
+        (b"", None),
+    ];
+    for (word, value) in cases {
+        assert_eq!(rt; name(word).ok(), value);
+    }
     Ok(())
 }
 

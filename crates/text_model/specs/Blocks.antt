@@ -1,16 +1,20 @@
 -- What events print: one block a form. Versions are a list of byte strings with the newest first, which ends with the empty
 -- one, and requests have the newest first too.
-use Rattle.std.specs.Prelude.{ℕ, ◌+◌, ◌-◌, List, [], ◌∷◌, ◌++◌, length, drop, nat_lt, if◌then◌else◌, codes}
+use Rattle.std.specs.Prelude.{ℕ, zero, suc, ◌+◌, ◌-◌, List, [], ◌∷◌, ◌++◌, length, drop, nat_lt, if◌then◌else◌, codes, Option, Some, None}
 use Rattle.std.specs.Fmt.{decimal}
 use Rattle.std.specs.List.{flat_map}
 use Rattle.hex.specs.Hex.{encode_lower}
-use Rattle.ring_model.specs.Messages.{Party, Member, Client}
+use Rattle.ring_model.specs.Messages.{Party, Member, Client, Mark}
 use Rattle.ring_mail.specs.Places.{Place}
+use Rattle.pond_base.specs.declared.numbers.ClientId.{ClientId}
 use Rattle.pond_base.specs.declared.numbers.MemberId.{MemberId}
 use Rattle.guarded_update.specs.declared.request.Request.{Request}
 use Rattle.object_model.specs.Folds.{Effect, Makes, Refuses, Repeats, effect, made_by, versions_after}
 use Rattle.object_model.specs.Trees.{height_of, version_strings, new_strings}
-use Rattle.object_model.specs.Updates.{Refusal, NoClause, OutOfRange, TooLong, newest}
+use Rattle.object_model.specs.Updates.{Refusal, NoClause, OutOfRange, TooLong}
+use Rattle.ring_message.specs.declared.outcome.Outcome.{Outcome}
+use Rattle.ring_message.specs.declared.outcome.Outcome.TheVariants as told
+use Rattle.message_model.specs.Meaning.{outcome_at}
 
 -- texts one behind the other, and a line feed behind them
 abbrev pub line_feed : List ℕ
@@ -26,10 +30,10 @@ abbrev pub version_line : ℕ → List ℕ → List ℕ
 version_line version bytes =
     codes "version " ++ decimal version ++ codes " length " ++ decimal (length bytes) ++ codes " " ++ printed_bytes bytes ++ line_feed
 
--- what a read prints: the newest version, or that none was made
+-- what a read prints of versions up to that of the client's heart: that one, or that there is none
 abbrev pub read_text : List (List ℕ) → List ℕ
-read_text versions =
-    if nat_lt 1 (length versions) then version_line (length versions - 1) (newest versions) else codes "no heart" ++ line_feed
+read_text [] = codes "no heart" ++ line_feed
+read_text (content ∷ older) = version_line (length older) content
 
 abbrev pub refusal_text : Refusal → List ℕ
 refusal_text NoClause = codes "no clause"
@@ -76,6 +80,11 @@ shape_text h block (content ∷ older) = shape_line h block content older
 abbrev pub up_to : ℕ → List (List ℕ) → List (List ℕ)
 up_to version versions = if nat_lt version (length versions) then drop (length versions - 1 - version) versions else []
 
+-- versions up to that of a heart, and none where there is no heart
+abbrev pub up_to_heart : Option Mark → List (List ℕ) → List (List ℕ)
+up_to_heart None versions = []
+up_to_heart (Some heart) versions = up_to heart.version versions
+
 -- what is shown of a faulty member
 abbrev pub faulty_text : MemberId → List ℕ
 faulty_text member = codes "member " ++ decimal member.0 ++ codes " faulty" ++ line_feed
@@ -92,3 +101,31 @@ delivery_line place = party_text place.from ++ codes " " ++ party_text place.to 
 -- the last deliveries, the oldest first
 abbrev pub recent_text : List Place → List ℕ
 recent_text places = codes "recent " ++ decimal (length places) ++ line_feed ++ flat_map delivery_line places
+
+-- an outcome that a client was told
+abbrev pub told_text : Outcome → List ℕ
+told_text (told.Made version name) = codes "made " ++ decimal version.0
+told_text told.NoClause = codes "no clause"
+told_text told.OutOfRange = codes "out of range"
+told_text told.TooLong = codes "too long"
+told_text told.Repeat = codes "repeat"
+
+-- what a client believes of a request: its outcome, which is spelled, or nothing yet
+abbrev pub belief_text : Option (List ℕ) → List ℕ
+belief_text None = codes "pending"
+belief_text (Some outcome) = told_text (outcome_at outcome)
+
+-- the lines of a client's first requests
+abbrev pub request_lines : (ℕ → Option (List ℕ)) → ℕ → List ℕ
+request_lines believed zero = []
+request_lines believed (suc earlier) = request_lines believed earlier ++ decimal (suc earlier) ++ codes " " ++ belief_text (believed (suc earlier)) ++ line_feed
+
+-- the line of a label with a heart
+abbrev pub heart_line : List ℕ → Option Mark → List ℕ
+heart_line label None = []
+heart_line label (Some heart) = codes "heart " ++ label ++ codes " " ++ decimal heart.version ++ line_feed
+
+-- what is shown of a client: its requests with the outcomes that it believes, and the labels with its hearts
+abbrev pub client_text : ClientId → ℕ → (ℕ → Option (List ℕ)) → List (List ℕ) → (List ℕ → Option Mark) → List ℕ
+client_text client count believed labels heart =
+    codes "client " ++ decimal client.0 ++ codes " requests " ++ decimal count ++ line_feed ++ request_lines believed count ++ flat_map (λ label. heart_line label (heart label)) labels

@@ -5,7 +5,8 @@ use Rattle.pond_base.specs.declared.numbers.ClientId.{ClientId}
 use Rattle.pond_base.specs.declared.numbers.MemberId.{MemberId}
 use Rattle.pond_base.specs.declared.numbers.Party.{Party}
 use Rattle.guarded_update.specs.Spelling.{request_string}
-use Rattle.ring_model.specs.Messages.{Ring, Message, PrePrepare, Prepare, Commit, same_party}
+use Rattle.object_model.specs.Trees.{object_name}
+use Rattle.ring_model.specs.Messages.{Ring, Message, PrePrepare, Prepare, Commit, Heart, same_party}
 use Rattle.ring_model.specs.World.{World, Event, world}
 use Rattle.ring_model.specs.World as model
 use Rattle.message_model.specs.Meaning.{who, meaning}
@@ -15,7 +16,7 @@ use Rattle.ring_mail.specs.Places.{Place}
 use Rattle.ring_world.specs.Deliveries.{pending}
 use Rattle.ring_world.specs.Skipping.{Told, stands_at, touches}
 use Rattle.script_terms.specs.declared.line.Line.{Line}
-use Rattle.script_terms.specs.declared.line.Line.TheVariants.{Submit, Resubmit, Deliver, Lose, Settle, Mute, Unmute, ForgeOrder, ForgePrepare, ForgeCommit, ForgeRaw}
+use Rattle.script_terms.specs.declared.line.Line.TheVariants.{Submit, Resubmit, Deliver, Lose, Settle, Mute, Unmute, ForgeOrder, ForgePrepare, ForgeCommit, ForgeHeart, ForgeRaw}
 use Rattle.script_terms.specs.declared.script.Script.{Script}
 use Rattle.text_model.specs.Requests.{Numbered, next_request, submitted}
 
@@ -81,6 +82,7 @@ with_events h g earlier events Settle = settled_by g (is_passed earlier) most_me
 with_events h g earlier events (ForgeOrder member to seq client number) = forged member to (PrePrepare seq.0 (asked_string g (world g events) client number)) events
 with_events h g earlier events (ForgePrepare member to seq client number) = forged member to (Prepare seq.0 (h (asked_string g (world g events) client number))) events
 with_events h g earlier events (ForgeCommit member to seq client number) = forged member to (Commit seq.0 (h (asked_string g (world g events) client number))) events
+with_events h g earlier events (ForgeHeart member to label version name) = forged member to (Heart (object_name h label) version.0 name) events
 with_events h g earlier events (ForgeRaw member to content) = forged member to (meaning content) events
 with_events h g earlier events line = events
 

@@ -1,7 +1,9 @@
+pub mod Believed
 pub mod Blocks
 pub mod Clashes
 pub mod Events
 pub mod Executed
+pub mod Labels
 pub mod Named
 pub mod Requests
 pub mod Text

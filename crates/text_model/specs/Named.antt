@@ -6,21 +6,15 @@ use Rattle.guarded_update.specs.Spelling.{request_string}
 use Rattle.object_model.specs.Folds.{Effect, Makes, Refuses, Repeats, effect, made_by, versions_after}
 use Rattle.object_model.specs.Trees.{version_strings}
 use Rattle.script_terms.specs.declared.line.Line.{Line}
-use Rattle.script_terms.specs.declared.line.Line.TheVariants.{Submit, Deliver, Settle, Read, ShowVersion}
+use Rattle.script_terms.specs.declared.line.Line.TheVariants.{Submit, Deliver, Settle}
 use Rattle.script_terms.specs.declared.line.LineClause.{LineClause}
 use Rattle.script_terms.specs.declared.line.LineGuard.{LineGuard}
 use Rattle.script_terms.specs.declared.line.LineGuard.TheVariants.{VersionIs, SizeIs, BlockIs}
 use Rattle.script_terms.specs.declared.script.Script.{Script}
 use Rattle.text_model.specs.Requests.{Numbered, next_request, submitted}
 use Rattle.text_model.specs.Executed.{committed_requests}
+use Rattle.text_model.specs.Labels.{labels_in}
 use Rattle.tree_format.specs.Strings.{leaf_string, label_string}
-
--- the labels that stand in an event
-abbrev pub labels_in : Line → List (List ℕ)
-labels_in (Submit client label clauses) = label ∷ []
-labels_in (Read client label) = label ∷ []
-labels_in (ShowVersion member label version) = label ∷ []
-labels_in line = []
 
 -- the label strings of an event
 abbrev pub label_strings : Numbered → List (List ℕ)

@@ -1,9 +1,10 @@
 //! The text that a script prints, as definitions.
 //!
-//! `Requests` says which requests the lines of a script submit and which of them are executed, from the
-//! list of all lines before and with no state; `Named` which strings each line names, `Clashes` where two
-//! of them have one name; `Blocks` what each form prints, and `Text` what a script prints, up to the
-//! first clash. They stand on the grammar's scripts and on the versions of object_model. The functions
+//! `Requests` says which requests the lines of a script submit, from the list of all lines before and
+//! with no state; `Events` which events of the ring they are, `Executed` and `Believed` what members and
+//! clients make of these; `Named` which strings each line names, `Clashes` where two of them have one
+//! name; `Blocks` what each form prints, and `Text` what a script prints, up to the first clash. They
+//! stand on the grammar's scripts, on the versions of object_model and on the model of agreement. The functions
 //! below have no code; their contracts are worked scripts, computed by the definitions. The crates above
 //! prove that the program writes exactly this text.
 #![tactic(auto)]
@@ -16,6 +17,12 @@ pub fn append_and_read_back()
     ensures unsettled { Prints itself (codes "pond 1" ∷ codes "ring 0" ∷ codes "submit 0 a append 6869" ∷ codes "read 0 a" ∷ [])
         (codes "no heart" ∷ []) }
     ensures nothing { Prints itself (codes "pond 1" ∷ codes "ring 0" ∷ []) [] }
+{}
+
+/// A client that was told nothing believes no outcome and has no heart.
+pub fn nothing_told()
+    ensures { Prints itself (codes "pond 1" ∷ codes "ring 0" ∷ codes "clients 2" ∷ codes "submit 1 a append 6869" ∷ codes "show client 1" ∷ codes "show client 0" ∷ [])
+        (codes "client 1 requests 1" ∷ codes "1 pending" ∷ codes "client 0 requests 0" ∷ []) }
 {}
 
 /// A run ends at the first line up to which two different strings have one name.

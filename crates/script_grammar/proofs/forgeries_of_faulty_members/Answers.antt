@@ -46,7 +46,3 @@ returns-clause-kind c = refl
 pub returns-clause-count : goal.returns-clause-count
 unfolding decode_pairs generated
 returns-clause-count c = refl
-
-pub returns-clause-heart : goal.returns-clause-heart
-unfolding decode_pairs generated
-returns-clause-heart c = refl

@@ -1,9 +1,11 @@
-use Rattle.std.proofs.Common.{◌++◌, ◌∙◌, refl, take, subst, arith}
+use Rattle.std.proofs.Common.{◌++◌, ◌∙◌, refl, take, reverse, subst, arith, rules}
 use Rattle.std.specs.List.{flat_map}
 use Rattle.std.proofs.lemmas.Result.{err_from_is_err_and}
 use Rattle.script_requests.specs.Holding.{HoldsJust}
 use Rattle.text_model.specs.Named.{label_strings}
-use Rattle.script_run.proofs.Labels.{labels_more, labels_clash, all_lines}
+use Rattle.script_run.specs.Labels.{AreLabels}
+use Rattle.script_run.proofs.Labelled.{labels_next}
+use Rattle.script_run.proofs.LabelStrings.{labels_more, labels_clash, all_lines}
 use Rattle.script_run.proofs.Turns.{holds_still}
 use Rattle.script_run.proofs.beginning.with_labels.Goals as goal
 
@@ -11,6 +13,7 @@ pub loop-line-init : goal.loop-line-init
 loop-line-init g c = record {
   world = refl;
   holds = λ strings just. holds_still g.H.Hash160.naming c.args.site strings just;
+  labels = search rules;
 }
 
 pub returns-in_err-named-clause-fault : goal.returns-in_err-named-clause-fault
@@ -31,6 +34,8 @@ loop-line-preserved g c =
       world = c.in_ok-named.ensures.world ∙ c.loop-line.invariant.world;
       holds = λ strings just. subst (HoldsJust g.H.Hash160.naming c.in_ok-named.named.held) (labels_more strings lines i c.loop-line-item.result c.loop-line-test.true c.loop-line-item.is)
           (c.in_ok-named.ensures.holds c.loop-line-item.result.0 (strings ++ flat_map label_strings (take i lines)) (c.loop-line.invariant.holds strings just));
+      labels = labels_next g.H.Hash160.naming c.with_label.new.labels.entries lines i c.loop-line-item.result c.loop-line-test.true c.loop-line-item.is
+          (c.in_ok-named.ensures.labels c.loop-line-item.result.0 (reverse (take i lines)) c.loop-line.invariant.labels);
     }
 
 pub returns-clause-world : goal.returns-clause-world
@@ -40,3 +45,7 @@ pub returns-clause-holds : goal.returns-clause-holds
 returns-clause-holds g c = λ strings just.
     subst (λ lines. HoldsJust g.H.Hash160.naming c.loop-line.named.held (strings ++ flat_map label_strings lines)) (all_lines c.args.lines.now c.loop-line.line-index (omega (arith, c.loop-line-test.false)))
     (c.loop-line.invariant.holds strings just)
+
+pub returns-clause-labels : goal.returns-clause-labels
+returns-clause-labels g c =
+    subst (λ lines. AreLabels g.H.Hash160.naming c.loop-line.labels.entries (reverse lines)) (all_lines c.args.lines.now c.loop-line.line-index (omega (arith, c.loop-line-test.false))) c.loop-line.invariant.labels

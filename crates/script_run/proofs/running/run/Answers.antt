@@ -15,7 +15,7 @@ returns-in-Err g c =
 
 pub loop-at-init : goal.loop-at-init
 loop-at-init g c =
-    stands_first g.H.Hash160.naming c.args.script.now (g.K.Sink.taken c.args.sink.now) (g.K.Sink.faults c.args.sink.now) c.in-Ok.state.site c.in-Ok.state.skips c.in-Ok.ensures.stands
+    stands_first g.H.Hash160.naming c.args.script.now (g.K.Sink.taken c.args.sink.now) (g.K.Sink.faults c.args.sink.now) c.in-Ok.first.0.site c.in-Ok.first.0.skips c.in-Ok.ensures.stands
 
 pub returns-in-Err-after_line : goal.returns-in-Err-after_line
 returns-in-Err-after_line g c =
@@ -66,4 +66,4 @@ pub returns : goal.returns
 returns g c =
     let script = c.args.script.now in
     let all : length script.lines ≤ c.loop-at.at = omega (arith, c.loop-at-test.false, c.len-at-end.ensures) in
-    says_done c.submits_are_requests.ensures.strings c.lists_are_one.ensures g.H.Hash160.naming script c.loop-at.at _ c.loop-at.state.site c.loop-at.state.skips c.requires.setup c.loop-at.invariant all
+    says_done c.submits_are_requests.ensures.strings c.lists_are_one.ensures c.beliefs_are_true.ensures g.H.Hash160.naming script c.loop-at.at _ c.loop-at.state.site c.loop-at.state.skips c.requires.setup c.loop-at.invariant all

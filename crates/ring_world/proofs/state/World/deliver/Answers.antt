@@ -6,8 +6,9 @@ use Rattle.ring_model.specs.World.{between}
 use Rattle.message_model.specs.Meaning.{who}
 use Rattle.ring_mail.specs.Places.{packet_of, place_of}
 use Rattle.ring_world.specs.Deliveries.{named_of}
-use Rattle.ring_world.specs.Named.{Names}
-use Rattle.ring_world.proofs.Calls.{names_err, names_spent, names_none}
+use Rattle.client_core.specs.Naming.{Names}
+use Rattle.client_core.proofs.Calls.{names_err, names_spent}
+use Rattle.ring_world.proofs.Calls.{names_none}
 use Rattle.ring_world.proofs.Stepping.{delivered_some, delivered_none, marked_world, posted_there, party_seat, place_low, told_place}
 use Rattle.ring_world.proofs.state.World.deliver.Goals as goal
 

@@ -1,10 +1,11 @@
 use Rattle.std.proofs.Common.{map, ◌++◌, refl, ap, subst, ◌∙◌}
 use Rattle.std.proofs.lemmas.Result.{err_from_is_err_and}
 use Rattle.ring_model.specs.Messages.{Member}
-use Rattle.message_model.specs.Meaning.{who, letter, packet}
+use Rattle.message_model.specs.Meaning.{who, letter}
 use Rattle.ring_mail.specs.Mails.{IsMail}
 use Rattle.ring_world.specs.Crew.{named_for}
-use Rattle.ring_world.proofs.Calls.{names_spent}
+use Rattle.ring_world.specs.Deliveries.{packet_from}
+use Rattle.client_core.proofs.Calls.{names_spent}
 use Rattle.ring_world.proofs.Requests.{known_still}
 use Rattle.ring_world.proofs.Stepping.{handed}
 use Rattle.ring_world.proofs.state.World.hand.Goals as goal
@@ -23,7 +24,7 @@ pub returns-clause-ok : goal.returns-clause-ok
 returns-clause-ok g c = λ r namings v done ring h from to.
     handed g.N.Node.stands r namings c.args.self.now v done (who c.args.from) c.args.to.0 c.args.bytes.now c.take.new.self c.post.new.mail
     (c.in_ok-out.ensures.members r namings v.got ring from to h.members_are)
-    (subst (λ xs. IsMail c.post.new.mail (v.sent ++ xs) done) (ap (map (packet c.args.to.0)) c.deref.ensures.value ∙ c.in_ok-out.ensures.out r namings v.got ring from to h.members_are)
+    (subst (λ xs. IsMail c.post.new.mail (v.sent ++ xs) done) (ap (map (packet_from (Member c.args.to.0))) c.deref.ensures.value ∙ c.in_ok-out.ensures.out r namings v.got ring from to h.members_are)
     (c.in_ok-post.ensures v.sent done h.mail_is)) h
 
 pub returns-clause-names : goal.returns-clause-names

@@ -3,11 +3,11 @@ use Rattle.std.proofs.lemmas.Result.{err_from_is_err_and}
 use Rattle.ring_model.specs.World.{world, MayHappen}
 use Rattle.ring_world.specs.declared.event.Event.{Event}
 use Rattle.ring_world.specs.declared.event.Event.TheVariants.{Submit}
-use Rattle.ring_world.specs.Named.{Names}
+use Rattle.client_core.specs.Naming.{Names}
 use Rattle.ring_world.specs.Worlds.{IsWorld, WorldStands, event_of, strings_of}
 use Rattle.ring_world.specs.Deliveries.{deliveries}
 use Rattle.ring_world.specs.Steps.{is_there}
-use Rattle.ring_world.proofs.Calls.{names_err}
+use Rattle.client_core.proofs.Calls.{names_err}
 use Rattle.ring_world.proofs.Order.{all_in_order}
 use Rattle.ring_world.proofs.state.World.happen.Goals as goal
 

@@ -12,7 +12,7 @@ some_of (x ∷ xs) i low = x
 pub returns-else-count-lt65536-clause-no : goal.returns-else-count-lt65536-clause-no
 returns-else-count-lt65536-clause-no g c = λ e step.
     let asks = subst (λ (e : Event). IsStep c.args.self.now e) c.in-Submit.is step in
-    let some = some_of c.args.self.now.requests.items c.in-Submit.client.0 asks.0.1 in
+    let some = some_of c.args.self.now.clients.items c.in-Submit.client.0 asks.0.1 in
     let few = asks.1 some in
     let count = c.in-Some.ensures.some.1 some in
     omega (arith, few, count, c.if-count-lt65536.false)
@@ -20,7 +20,7 @@ returns-else-count-lt65536-clause-no g c = λ e step.
 pub returns-then-number-gt0-clause-no : goal.returns-then-number-gt0-clause-no
 returns-then-number-gt0-clause-no g c = λ e step.
     let asks = subst (λ (e : Event). IsStep c.args.self.now e) c.in-Resubmit.is step in
-    let some = some_of c.args.self.now.requests.items c.in-Resubmit.client.0 asks.0.1 in
+    let some = some_of c.args.self.now.clients.items c.in-Resubmit.client.0 asks.0.1 in
     let few = asks.2 some in
     let count = c.in-Some-asked.ensures.some.1 some in
     let more = leb-false c.in-Resubmit.number c.in-Some-asked.count e in

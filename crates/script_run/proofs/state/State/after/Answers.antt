@@ -1,7 +1,7 @@
 use Rattle.std.proofs.Common.{◌≡◌, List, Some, length, slice_get, inl, inr, refl, sym, ap, subst, arith}
 use Rattle.script_terms.specs.declared.line.Line.{Line}
 use Rattle.script_terms.specs.declared.line.LineClause.{LineClause}
-use Rattle.script_terms.specs.declared.line.Line.TheVariants.{Submit, Resubmit, Deliver, Lose, Settle, Mute, Unmute, ForgeOrder, ForgePrepare, ForgeCommit, ForgeRaw}
+use Rattle.script_terms.specs.declared.line.Line.TheVariants.{Submit, Resubmit, Deliver, Lose, Settle, Mute, Unmute, ForgeOrder, ForgePrepare, ForgeCommit, ForgeHeart, ForgeRaw}
 use Rattle.script_run.proofs.Shown.{line_here}
 use Rattle.script_run.proofs.Passed.{IsShow, shown_next}
 use Rattle.script_run.proofs.state.State.after.Goals as goal
@@ -90,6 +90,14 @@ forged_commit-requires g c = record {
   stands = c.requires.stands;
 }
 
+pub forged_heart-requires-clause-turn : goal.forged_heart-requires-clause-turn
+forged_heart-requires-clause-turn g c = record {
+  within = c.requires.within;
+  number = c.index-as_slice-at.result.0;
+  here = line_here c.args.script.now c.as_slice.result.now c.args.at c.index-as_slice-at.result (ForgeHeart c.in-ForgeHeart.member c.in-ForgeHeart.to c.in-ForgeHeart.label c.in-ForgeHeart.version c.in-ForgeHeart.name) c.as_slice.ensures c.requires.here c.index-as_slice-at.is c.in-ForgeHeart.is;
+  stands = c.requires.stands;
+}
+
 pub forged_raw-requires : goal.forged_raw-requires
 forged_raw-requires g c = record {
   within = c.requires.within;
@@ -105,7 +113,10 @@ returns-in-Read-clause-stands g c =
       | inl read ↦ subst IsShow (sym read.2) tt
       | inr r ↦ elim r as (λ _. IsShow line) [
         | inl member ↦ subst IsShow (sym member.1) tt
-        | inr q ↦ elim q as (λ _. IsShow line) [ inl version ↦ subst IsShow (sym version.3) tt | inr recent ↦ subst IsShow (sym recent) tt ]
+        | inr q ↦ elim q as (λ _. IsShow line) [
+          | inl client ↦ subst IsShow (sym client.1) tt
+          | inr s ↦ elim s as (λ _. IsShow line) [ inl version ↦ subst IsShow (sym version.3) tt | inr recent ↦ subst IsShow (sym recent) tt ]
+        ]
       ]
     ] in
     shown_next g.H.Hash160.naming c.args.script.now c.args.at line c.args.self.site c.args.self.skips shows (record {
