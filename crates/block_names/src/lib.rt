@@ -14,8 +14,6 @@ mod fault;
 mod fold_hash;
 mod hash;
 mod pool;
-#[cfg(test)]
-mod tests;
 
 pub use book::Book;
 pub use fault::{NameFault, StepFault};

@@ -14,8 +14,6 @@ mod inverses;
 mod mixed;
 mod order;
 mod table;
-#[cfg(test)]
-mod tests;
 
 pub use code::Code;
 pub use inverses::Inverses;

@@ -16,7 +16,5 @@ mod new;
 mod replies;
 mod submitting;
 mod taking;
-#[cfg(test)]
-mod tests;
 
 pub use client::Client;

@@ -16,20 +16,21 @@
 #![tactic(auto)]
 
 mod building;
+mod contents;
+mod draft;
 mod edits;
 mod inners;
+mod leaf_naming;
+mod leaf_row;
 mod leaves;
 mod lookup;
 mod node;
 mod row;
 mod rows;
+mod shared;
 mod span;
-#[cfg(test)]
-mod tests;
 mod tree;
 mod walk_nodes;
-#[cfg(test)]
-mod walk_tests;
 mod walking;
 
 pub use lookup::Lookup;

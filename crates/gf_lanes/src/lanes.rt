@@ -182,37 +182,3 @@ pub(crate) fn add_block(acc: &mut [u8], at: usize, low: u8x32, high: u8x32, row:
     let added = sum(load(acc, at), products);
     store(acc, at, added);
 }
-
-#[cfg(test)]
-mod tests {
-    use crate::{add_row, add_row_plain};
-    use std::test::Fail;
-
-    #[test]
-    fn lanes_are_the_plain_sum(rt: HostRuntime) -> Result<(), Fail> {
-        let mut bytes: Vec<u8> = Vec::new(rt.alloc());
-        for j in 0..100u8 {
-            bytes.push(j.wrapping_mul(89) ^ 0x5a)?;
-        }
-        for len in 0..101usize {
-            for c in 0..=255u8 {
-                let mut plain = vec![in rt.alloc(); 0xc3; len]?;
-                let mut lanes = vec![in rt.alloc(); 0xc3; len]?;
-                if bytes.len() == 100 {
-                    add_row_plain(&mut plain, c, &bytes[..len]);
-                    add_row(&mut lanes, c, &bytes[..len]);
-                }
-                assert_eq!(rt; plain.as_slice(), lanes.as_slice());
-            }
-        }
-        Ok(())
-    }
-
-    #[test]
-    fn a_row_times_three(rt: HostRuntime) -> Result<(), Fail> {
-        let mut acc = [0x01, 0x02, 0x80];
-        add_row(&mut acc, 3, &[0x10, 0x80, 0xff]);
-        assert_eq!(rt; acc, [0x31, 0x9f, 0x9c]);
-        Ok(())
-    }
-}

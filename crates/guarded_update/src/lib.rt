@@ -18,8 +18,6 @@ mod reading;
 mod request;
 mod setup;
 mod spelled;
-#[cfg(test)]
-mod tests;
 mod update;
 mod writing;
 

@@ -12,8 +12,6 @@
 mod entries;
 mod entry;
 mod laws;
-#[cfg(test)]
-mod tests;
 mod votes;
 
 pub use laws::{hearts_join, newest_joins, seals_join};

@@ -9,7 +9,5 @@
 #![tactic(auto)]
 
 mod orders;
-#[cfg(test)]
-mod tests;
 
 pub use orders::Orders;

@@ -15,8 +15,6 @@ mod laws;
 mod objects;
 mod seen;
 mod shelf;
-#[cfg(test)]
-mod tests;
 
 pub use laws::{made_strings_are_held, objects_stay_known, versions_are_few};
 pub use objects::Objects;

@@ -6,8 +6,6 @@
 
 mod edge;
 mod status;
-#[cfg(test)]
-mod tests;
 mod top;
 
 use edge::{InputSource, OutputSink};

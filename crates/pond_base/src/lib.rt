@@ -21,8 +21,6 @@ mod numbers;
 mod out_of_memory;
 mod outside;
 mod reading;
-#[cfg(test)]
-mod tests;
 mod writing;
 
 pub use clean::{CleanSink, CleanSource};

@@ -14,8 +14,6 @@
 mod events;
 mod opening;
 mod site;
-#[cfg(test)]
-mod tests;
 
 pub use events::events_may_come;
 pub use opening::{open, ring_is_sound};

@@ -13,8 +13,6 @@ mod phase;
 mod slot;
 mod slots;
 mod tally;
-#[cfg(test)]
-mod tests;
 mod window;
 
 pub use phase::Phase;

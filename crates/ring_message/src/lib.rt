@@ -10,8 +10,6 @@
 mod message;
 mod outcome;
 mod reading;
-#[cfg(test)]
-mod tests;
 mod writing;
 
 pub use message::{Message, Out};

@@ -10,8 +10,6 @@
 mod known;
 mod load;
 mod sizes;
-#[cfg(test)]
-mod tests;
 
 pub use known::{Known, slot};
 pub use load::Load;

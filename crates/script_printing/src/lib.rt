@@ -14,8 +14,6 @@ mod members;
 mod outcomes;
 mod reads;
 mod shapes;
-#[cfg(test)]
-mod tests;
 
 pub use clients::client_text;
 pub use deliveries::recent_text;

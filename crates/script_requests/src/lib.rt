@@ -8,7 +8,5 @@
 #![tactic(auto)]
 
 mod clauses;
-#[cfg(test)]
-mod tests;
 
 pub use clauses::clauses_of;

@@ -12,8 +12,6 @@ mod fault;
 mod item;
 mod line;
 mod script;
-#[cfg(test)]
-mod tests;
 mod verb;
 
 pub use cause::Cause;

@@ -16,8 +16,6 @@ mod parsing;
 mod skipping;
 mod state;
 mod submits;
-#[cfg(test)]
-mod tests;
 mod verbs;
 
 pub use fault::ParseFault;

@@ -11,8 +11,6 @@ mod clause;
 mod grouping;
 mod guard;
 mod place;
-#[cfg(test)]
-mod tests;
 
 pub use clause::clauses;
 pub use grouping::groups;

@@ -11,8 +11,6 @@ mod lines;
 mod names;
 mod numbers;
 mod parties;
-#[cfg(test)]
-mod tests;
 
 pub use contents::data;
 pub use labels::label;

@@ -13,8 +13,6 @@ mod label;
 mod leaf;
 mod malformed;
 mod root;
-#[cfg(test)]
-mod tests;
 
 pub use inner::{Inner, read_inner, write_inner};
 pub use label::write_label;
