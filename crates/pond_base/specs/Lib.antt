@@ -1,4 +1,5 @@
 pub mod Fields
 pub mod Label
+pub mod Memory
 pub mod Outside
 pub mod Padded

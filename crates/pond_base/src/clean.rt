@@ -1,5 +1,8 @@
 // A source and a sink that never fail.
-ghost use Rattle.std.specs.Prelude.{◌≡◌, Some, None};
+ghost use Rattle.std.specs.Prelude.{◌≡◌, ◌<◌, ℕ, List, Option, length, min, Some, None, Ok};
+ghost use Rattle.std.specs.Io.{ReadsAtMost, WritesAtMost};
+ghost use Rattle.std.specs.Io.KnownBytes.{ReadConsumes, WriteAppends};
+ghost use Rattle.pond_base.specs.Outside.{CountsFaults, CountsTakes};
 
 use crate::memory_source::copy_front;
 use crate::{Failed, Sink, Source};
@@ -37,7 +40,14 @@ impl Source for CleanSource {
 
     ghost faults = { λ _. 0 };
 
-    fn take(&mut self, room: &mut [u8]) -> Result<usize, Failed> {
+    fn take(&mut self, room: &mut [u8]) -> Result<usize, Failed>
+        requires { 0 < length room.old }
+        ensures bound { ReadsAtMost result room.new }
+        ensures bytes { ReadConsumes (Some self.old) (Some self.new) result room.new }
+        ensures counted { CountsFaults 0 0 result }
+
+        ensures most { result ≡ Ok (min (length room.old) (length self.old)) }
+    {
         let count = copy_front(&self.bytes[self.given..], room.len(), room);
         self.given += count;
         Ok(count)
@@ -60,7 +70,14 @@ impl Sink for CleanSink {
 
     ghost faults = { λ _. 0 };
 
-    fn take(&mut self, piece: &[u8]) -> Result<usize, Failed> {
+    fn take(&mut self, piece: &[u8]) -> Result<usize, Failed>
+        requires { 0 < length piece.now }
+        ensures bound { WritesAtMost result piece.now }
+        ensures bytes { let none : Option (List ℕ) = None in WriteAppends none none result piece.now }
+        ensures counted { CountsTakes 0 0 result }
+
+        ensures whole { result ≡ Ok (length piece.now) }
+    {
         Ok(piece.len())
     }
 }

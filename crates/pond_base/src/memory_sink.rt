@@ -1,5 +1,9 @@
 // A sink in memory whose takes can be made to fail.
-ghost use Rattle.std.specs.Prelude.{◌≡◌, ◌<◌, [], Some, IfOk};
+ghost use Rattle.std.specs.Prelude.{◌≡◌, ◌<◌, length, Some, IfOk};
+ghost use Rattle.std.specs.Io.{WritesAtMost};
+ghost use Rattle.std.specs.Io.KnownBytes.{WriteAppends};
+ghost use Rattle.pond_base.specs.Memory.{unwritten, FailsAsListedOrFull, TakesMost, GoesOnWriting};
+ghost use Rattle.pond_base.specs.Outside.{CountsTakes};
 
 use crate::{Failed, OutOfMemory, Sink};
 use std::alloc::Global;
@@ -17,15 +21,24 @@ pub struct MemorySink {
     faults: u64,
 }
 
-// Contracts see the bytes taken, and the count of faults.
+// Contracts see the bytes taken, how the sink was set up, and its counts.
 impl Model for MemorySink {
-    ghost use Rattle.std.specs.Prelude.{◌<◌, ◌≤◌, List, ℕ, vec_len};
+    ghost use Rattle.std.specs.Prelude.{◌<◌, ◌≤◌, vec_len, vec_capacity};
+    ghost use Rattle.pond_base.specs.Memory.{MemoryWritten};
 
-    ghost Value = { List ℕ × ℕ };
+    ghost Value = { MemoryWritten };
 
-    ghost view = { λ sink. (sink.bytes.items, sink.faults) };
+    ghost view = { λ sink. record {
+      taken = sink.bytes.items;
+      room = sink.room;
+      most = sink.most;
+      fails = sink.fails.items;
+      takes = sink.takes;
+      faults = sink.faults;
+    } };
 
-    ghost invariant = { λ sink. (vec_len sink.bytes ≤ sink.room) × (0 < sink.most) };
+    ghost invariant = { λ sink.
+        (vec_len sink.bytes ≤ sink.room) × (sink.room ≤ vec_capacity sink.bytes) × (0 < sink.most) };
 }
 
 impl MemorySink {
@@ -39,7 +52,7 @@ impl MemorySink {
         fails: Vec<u64>,
     ) -> Result<MemorySink, OutOfMemory>
         requires { 0 < most }
-        ensures { IfOk result (λ sink. sink ≡ ([], 0)) }
+        ensures { IfOk result (λ sink. sink ≡ unwritten room most fails.items) }
     {
         let bytes = Vec::with_capacity(alloc, room)?;
         Ok(MemorySink {
@@ -54,18 +67,27 @@ impl MemorySink {
 
     /// The bytes taken so far.
     pub fn taken(&self) -> &[u8]
-        ensures { result.now ≡ self.now.0 }
+        ensures { result.now ≡ self.now.taken }
     {
         &self.bytes
     }
 }
 
 impl Sink for MemorySink {
-    ghost taken = { λ sink. Some sink.0 };
+    ghost taken = { λ sink. Some sink.taken };
 
-    ghost faults = { λ sink. sink.1 };
+    ghost faults = { λ sink. sink.faults };
 
-    fn take(&mut self, piece: &[u8]) -> Result<usize, Failed> {
+    fn take(&mut self, piece: &[u8]) -> Result<usize, Failed>
+        requires { 0 < length piece.now }
+        ensures bound { WritesAtMost result piece.now }
+        ensures bytes { WriteAppends (Some self.old.taken) (Some self.new.taken) result piece.now }
+        ensures counted { CountsTakes self.old.faults self.new.faults result }
+
+        ensures listed { FailsAsListedOrFull self.old result }
+        ensures most { TakesMost self.old (length piece.now) result }
+        ensures goes_on { GoesOnWriting self.old self.new }
+    {
         self.takes = self.takes.saturating_add(1);
         let left = self.room - self.bytes.len();
         if left == 0 || self.fails.contains(&self.takes) {
@@ -73,12 +95,10 @@ impl Sink for MemorySink {
             return Err(Failed);
         }
         let count = self.most.min(piece.len()).min(left);
+        // The room was had when the sink was made.
         match self.bytes.extend_from_slice(&piece[..count]) {
             Ok(()) => Ok(count),
-            Err(_) => {
-                self.faults = self.faults.saturating_add(1);
-                Err(Failed)
-            }
+            Err(_) => unreachable!(),
         }
     }
 }

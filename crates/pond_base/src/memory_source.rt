@@ -1,5 +1,9 @@
 // A source in memory whose takes can be made to fail.
 ghost use Rattle.std.specs.Prelude.{◌≡◌, ◌<◌, take, min, length, Some};
+ghost use Rattle.std.specs.Io.{ReadsAtMost};
+ghost use Rattle.std.specs.Io.KnownBytes.{ReadConsumes};
+ghost use Rattle.pond_base.specs.Memory.{unread, FailsAsListed, GivesMost, GoesOnReading};
+ghost use Rattle.pond_base.specs.Outside.{CountsFaults};
 
 use crate::{Failed, Source};
 use std::marker::Model;
@@ -16,13 +20,20 @@ pub struct MemorySource {
     faults: u64,
 }
 
-// Contracts see the bytes that are left, and the count of faults.
+// Contracts see the bytes that are left, how the source was set up, and its counts.
 impl Model for MemorySource {
-    ghost use Rattle.std.specs.Prelude.{◌<◌, ◌≤◌, List, ℕ, drop, vec_len};
+    ghost use Rattle.std.specs.Prelude.{◌<◌, ◌≤◌, drop, vec_len};
+    ghost use Rattle.pond_base.specs.Memory.{MemoryRead};
 
-    ghost Value = { List ℕ × ℕ };
+    ghost Value = { MemoryRead };
 
-    ghost view = { λ source. (drop source.given source.bytes.items, source.faults) };
+    ghost view = { λ source. record {
+      left = drop source.given source.bytes.items;
+      most = source.most;
+      fails = source.fails.items;
+      takes = source.takes;
+      faults = source.faults;
+    } };
 
     ghost invariant = { λ source. (source.given ≤ vec_len source.bytes) × (0 < source.most) };
 }
@@ -32,7 +43,7 @@ impl MemorySource {
     /// takes whose numbers, counted from 1, stand in `fails` fail. Takes no memory.
     pub fn new(bytes: Vec<u8>, most: usize, fails: Vec<u64>) -> MemorySource
         requires { 0 < most }
-        ensures { result ≡ (bytes.items, 0) }
+        ensures { result ≡ unread bytes.items most fails.items }
     {
         MemorySource {
             bytes,
@@ -46,11 +57,20 @@ impl MemorySource {
 }
 
 impl Source for MemorySource {
-    ghost left = { λ source. Some source.0 };
+    ghost left = { λ source. Some source.left };
 
-    ghost faults = { λ source. source.1 };
+    ghost faults = { λ source. source.faults };
 
-    fn take(&mut self, room: &mut [u8]) -> Result<usize, Failed> {
+    fn take(&mut self, room: &mut [u8]) -> Result<usize, Failed>
+        requires { 0 < length room.old }
+        ensures bound { ReadsAtMost result room.new }
+        ensures bytes { ReadConsumes (Some self.old.left) (Some self.new.left) result room.new }
+        ensures counted { CountsFaults self.old.faults self.new.faults result }
+
+        ensures listed { FailsAsListed self.old result }
+        ensures most { GivesMost self.old (length room.old) result }
+        ensures goes_on { GoesOnReading self.old self.new }
+    {
         self.takes = self.takes.saturating_add(1);
         if self.fails.contains(&self.takes) {
             self.faults = self.faults.saturating_add(1);

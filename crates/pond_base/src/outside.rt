@@ -1,8 +1,8 @@
 // Where the bytes of a script come from, and where its text goes.
-ghost use Rattle.std.specs.Prelude.{◌<◌, ◌≡◌, ℕ, List, length, Option, OnOk};
+ghost use Rattle.std.specs.Prelude.{◌<◌, ℕ, List, length, Option};
 ghost use Rattle.std.specs.Io.{ReadsAtMost, WritesAtMost};
 ghost use Rattle.std.specs.Io.KnownBytes.{ReadConsumes, WriteAppends};
-ghost use Rattle.pond_base.specs.Outside.{HasCause, TakesSome};
+ghost use Rattle.pond_base.specs.Outside.{CountsFaults, CountsTakes};
 
 /// A call to the outside failed. The bytes that a source or a sink tells are then those of before.
 #[derive(Clone, Copy, Debug, PartialEq, Eq)]
@@ -17,13 +17,12 @@ pub trait Source {
     ghost faults: { Self → ℕ };
 
     /// Moves the first bytes left into the front of `room`, and answers how many: 0 exactly at the end.
-    /// It fails only where the count of faults rose, and the count rises only where it fails.
+    /// The count of faults rises by one where it fails, and stands else.
     fn take(&mut self, room: &mut [u8]) -> Result<usize, Failed>
         requires { 0 < length room.old }
         ensures bound { ReadsAtMost result room.new }
         ensures bytes { ReadConsumes (left self.old) (left self.new) result room.new }
-        ensures cause { HasCause (faults self.old) (faults self.new) result }
-        ensures kept { OnOk result (faults self.new ≡ faults self.old) };
+        ensures counted { CountsFaults (faults self.old) (faults self.new) result };
 }
 
 /// A sink of bytes.
@@ -35,11 +34,10 @@ pub trait Sink {
     ghost faults: { Self → ℕ };
 
     /// Takes bytes from the front of `piece`, and answers how many. An answer of 0 is a failure too: the
-    /// count of faults rose then. Where bytes were taken the count is as it was.
+    /// count of faults rises by one where it fails or answers 0, and stands else.
     fn take(&mut self, piece: &[u8]) -> Result<usize, Failed>
         requires { 0 < length piece.now }
         ensures bound { WritesAtMost result piece.now }
         ensures bytes { WriteAppends (taken self.old) (taken self.new) result piece.now }
-        ensures cause { HasCause (faults self.old) (faults self.new) result }
-        ensures some { TakesSome (faults self.old) (faults self.new) result };
+        ensures counted { CountsTakes (faults self.old) (faults self.new) result };
 }

@@ -1,7 +1,7 @@
 // A source read to its end.
-ghost use Rattle.std.specs.Prelude.{◌≡◌, ◌≤◌, ◌<◌, ◌^◌, ◌+◌, length, IfOk, IfSome, IsErrOf, OnOk};
+ghost use Rattle.std.specs.Prelude.{◌≤◌, ◌<◌, ◌^◌, ◌+◌, length, IfOk, IfSome, IsErrOf, OnOk};
 ghost use Rattle.std.specs.Io.KnownBytes.{Consumes, IsAtEnd};
-ghost use Rattle.pond_base.specs.Outside.{Rose};
+ghost use Rattle.pond_base.specs.Outside.{CountsReads};
 
 use crate::Source;
 use std::alloc::Global;
@@ -17,17 +17,16 @@ pub enum Unread {
     Memory,
 }
 
-/// All bytes of a source, where they are at most `most`. Reading ends at the first take that fails.
+/// All bytes of a source, where they are at most `most`. Reading ends at the first take that fails, which
+/// is counted once.
 pub fn read_whole<S: Source>(alloc: Global, source: &mut S, most: usize) -> Result<Vec<u8>, Unread>
     requires { most + 1 < 2 ^ 64 }
     ensures whole { IfOk result (λ bytes. Consumes (S.left source.old) (S.left source.new) bytes.items) }
     ensures ended { OnOk result (IsAtEnd (S.left source.new)) }
     ensures small { IfOk result (λ bytes. length bytes.items ≤ most) }
-    ensures kept { OnOk result (S.faults source.new ≡ S.faults source.old) }
+    ensures counted { CountsReads (S.faults source.old) (S.faults source.new) result }
 
-    ensures failed { IsErrOf result Unread.Failed → Rose (S.faults source.old) (S.faults source.new) }
     ensures large { IsErrOf result Unread.TooLarge → IfSome (S.left source.old) (λ bytes. most < length bytes) }
-    ensures later { S.faults source.old ≤ S.faults source.new }
 {
     let mut bytes = Vec::new(alloc);
 

@@ -8,5 +8,5 @@ pub loop-done-preserved : goal.loop-done-preserved
 loop-done-preserved g c = record {
   within = grind (arith, common_steps, c.in-Ok.ensures.bound);
   written = rw (take-more c.args.piece.now c.loop-done.done c.in-Ok.count) (Appends-trans _ _ _ _ _ c.loop-done.invariant.written c.in-Ok.ensures.bytes);
-  kept = let some : 0 < c.in-Ok.count = omega arith in c.in-Ok.ensures.some.1 some ∙ c.loop-done.invariant.kept;
+  kept = let some : 0 < c.in-Ok.count = omega arith in c.in-Ok.ensures.counted.kept some ∙ c.loop-done.invariant.kept;
 }
