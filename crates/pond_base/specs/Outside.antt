@@ -29,3 +29,24 @@ CountsReads before now (Err Memory) = now ≡ before
 -- the bytes taken, where they are known, grew by a prefix of a text
 abbrev pub AppendsPrefix : Option (List ℕ) → Option (List ℕ) → List ℕ → Type 0
 AppendsPrefix old new text = (count : ℕ) × Appends old new (take count text)
+
+-- what a call saw of a source or a sink: the bytes left in it or taken by it, where it tells them, and
+-- its count of faults, as the call began and as it ended
+pub record Seen : Type 0 where
+  pub before : Option (List ℕ)
+  pub after : Option (List ℕ)
+  pub faults_before : ℕ
+  pub faults_after : ℕ
+
+-- no byte moved, and no fault was counted
+pub record IsUnused (seen : Seen) : Type 0 where
+  pub same : seen.after ≡ seen.before
+  pub faults : seen.faults_after ≡ seen.faults_before
+
+-- a call failed, and none after it
+abbrev pub Fails : Seen → Type 0
+Fails seen = seen.faults_after ≡ after_fault seen.faults_before
+
+-- no call failed
+abbrev pub IsSound : Seen → Type 0
+IsSound seen = seen.faults_after ≡ seen.faults_before
