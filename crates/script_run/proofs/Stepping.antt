@@ -6,7 +6,7 @@ use Rattle.std.specs.Io.KnownBytes.{Appends}
 use Rattle.std.proofs.KnownBytes.{Appends-trans, Appends-nil}
 use Rattle.std.proofs.lemmas.Grind.{common_steps}
 use Rattle.std.proofs.lemmas.List.{reverse-reverse}
-use Rattle.pond_base.specs.Outside.{AppendsPrefix, Rose}
+use Rattle.pond_base.specs.Outside.{Seen, AppendsPrefix, after_fault}
 use Rattle.script_terms.specs.declared.script.Script.{Script}
 use Rattle.text_model.specs.Clashes.{has_clash}
 use Rattle.text_model.specs.Named.{named}
@@ -17,7 +17,7 @@ use Rattle.script_requests.specs.Holding.{IsClashOf}
 use Rattle.script_requests.proofs.Holds.{held_clear, none_found, clash_found}
 use Rattle.script_run.specs.declared.running.End.{End}
 use Rattle.script_run.specs.declared.running.End.TheVariants.{Done, WriteFault, Clash, Memory}
-use Rattle.script_run.specs.Ends.{Taking, Takes, Says, EndsAt, IsClear, written_at}
+use Rattle.script_run.specs.Ends.{Takes, Says, EndsAt, IsClear, written_at}
 use Rattle.pond_world.specs.Sites.{SiteView}
 use Rattle.ring_world.specs.declared.skips.Skips.{Skips}
 use Rattle.script_agreement.specs.Laws.{ListsAreOne, BeliefsHold}
@@ -47,24 +47,24 @@ pub start_written : (h : List ℕ → List ℕ) (script : Script) → has_clash 
 start_written h script e = ap (λ b. cond b (clash_line 0) (text_from h script [] script.lines)) e
 
 -- an end before the first line
-pub says_first : (h : List ℕ → List ℕ) (script : Script) (sink : Taking) (end : End) → EndsAt h (named h script []) 0 (text_of h script) sink end → Says h script sink end
+pub says_first : (h : List ℕ → List ℕ) (script : Script) (sink : Seen) (end : End) → EndsAt h (named h script []) 0 (text_of h script) sink end → Says h script sink end
 says_first h script sink Done e = absurd e
 says_first h script sink WriteFault e = e
 says_first h script sink (Clash line old new) e = (e.0, inl (record { start = e.1; clash = e.2 }))
 says_first h script sink Memory e = e
 
 -- what was seen of a sink over two calls
-abbrev pub over : Taking → Taking → Taking
+abbrev pub over : Seen → Seen → Seen
 over first then = record { before = first.before; after = then.after; faults_before = first.faults_before; faults_after = then.faults_after }
 
 -- where a run stands before line i
-pub record Stands (h : List ℕ → List ℕ) (script : Script) (i : ℕ) (sink : Taking) (site : SiteView) (skips : Skips) : Type 0 where
+pub record Stands (h : List ℕ → List ℕ) (script : Script) (i : ℕ) (sink : Seen) (site : SiteView) (skips : Skips) : Type 0 where
   pub written : Written h script i sink.before sink.after
   pub faults : sink.faults_after ≡ sink.faults_before
   pub stands : StandsFor h script (reverse (take i script.lines)) site skips
 
 -- an end at line i
-pub says_at : (h : List ℕ → List ℕ) (script : Script) (i : ℕ) (line : Numbered) (first then : Taking) (site : SiteView) (skips : Skips) (end : End) → Stands h script i first site skips → first.after ≡ then.before → first.faults_after ≡ then.faults_before
+pub says_at : (h : List ℕ → List ℕ) (script : Script) (i : ℕ) (line : Numbered) (first then : Seen) (site : SiteView) (skips : Skips) (end : End) → Stands h script i first site skips → first.after ≡ then.before → first.faults_after ≡ then.faults_before
     → i < length script.lines → line ≡ get_or script.lines i line
     → EndsAt h (named h script (line ∷ reverse (take i script.lines))) line.0 (written_at h script (reverse (take i script.lines)) line) then end → Says h script (over first then) end
 says_at h script i line first then site skips Done s joined counted here is e = absurd e
@@ -74,14 +74,16 @@ says_at h script i line first then site skips WriteFault s joined counted here i
     let rest = cond (has_clash h (named h script (line ∷ before))) [] (text_from h script (line ∷ before) (drop (i + 1) script.lines)) in
     let step : AppendsPrefix first.after then.after piece = subst (λ m. AppendsPrefix m then.after piece) (sym joined) e.0 in (
       subst (AppendsPrefix first.before then.after) (sym (left_at h script i line first.before first.after s.written here is)) (then_prefix first.before first.after then.after s.written.text piece rest s.written.taken step),
-      subst (λ m. Rose m then.faults_after) (sym counted ∙ s.faults) e.1,
+      e.1 ∙ ap after_fault (sym counted ∙ s.faults),
     )
 says_at h script i line first then site skips Memory s joined counted here is e =
     let before = reverse (take i script.lines) in
     let piece = written_at h script before line in
     let rest = cond (has_clash h (named h script (line ∷ before))) [] (text_from h script (line ∷ before) (drop (i + 1) script.lines)) in
-    let step : AppendsPrefix first.after then.after piece = subst (λ m. AppendsPrefix m then.after piece) (sym joined) e in
-    subst (AppendsPrefix first.before then.after) (sym (left_at h script i line first.before first.after s.written here is)) (then_prefix first.before first.after then.after s.written.text piece rest s.written.taken step)
+    let step : AppendsPrefix first.after then.after piece = subst (λ m. AppendsPrefix m then.after piece) (sym joined) e.0 in (
+      subst (AppendsPrefix first.before then.after) (sym (left_at h script i line first.before first.after s.written here is)) (then_prefix first.before first.after then.after s.written.text piece rest s.written.taken step),
+      e.1 ∙ sym counted ∙ s.faults,
+    )
 says_at h script i line first then site skips (Clash number old new) s joined counted here is e =
     let before = reverse (take i script.lines) in
     let piece = written_at h script before line in
@@ -108,7 +110,7 @@ pub stands_first : (h : List ℕ → List ℕ) (script : Script) (a : Option (Li
 stands_first h script a faults site skips is = record { written = written_none h script a (state_none h script [] site skips is) (Appends-nil a); faults = refl; stands = is }
 
 -- a line more
-pub stands_more : (h : List ℕ → List ℕ) (script : Script) (i : ℕ) (line : Numbered) (first then : Taking) (old : SiteView) (passed : Skips) (new : SiteView) (left : Skips) → Stands h script i first old passed → first.after ≡ then.before → first.faults_after ≡ then.faults_before
+pub stands_more : (h : List ℕ → List ℕ) (script : Script) (i : ℕ) (line : Numbered) (first then : Seen) (old : SiteView) (passed : Skips) (new : SiteView) (left : Skips) → Stands h script i first old passed → first.after ≡ then.before → first.faults_after ≡ then.faults_before
     → i < length script.lines → line ≡ get_or script.lines i line → StandsFor h script (line ∷ reverse (take i script.lines)) new left → Takes then (line_text h script (reverse (take i script.lines)) line.1)
     → Stands h script (i + 1) (over first then) new left
 stands_more h script i line first then old passed new left s joined counted here is now took =
@@ -121,7 +123,7 @@ stands_more h script i line first then old passed new left s joined counted here
     }
 
 -- all lines
-pub says_done : SubmitsAreRequests → ListsAreOne → BeliefsHold → (h : List ℕ → List ℕ) (script : Script) (i : ℕ) (sink : Taking) (site : SiteView) (skips : Skips) → SetupFits script.setup → Stands h script i sink site skips → length script.lines ≤ i → Says h script sink Done
+pub says_done : SubmitsAreRequests → ListsAreOne → BeliefsHold → (h : List ℕ → List ℕ) (script : Script) (i : ℕ) (sink : Seen) (site : SiteView) (skips : Skips) → SetupFits script.setup → Stands h script i sink site skips → length script.lines ≤ i → Says h script sink Done
 says_done submits law beliefs h script i sink site skips setup s most =
     let all : StandsFor h script (reverse script.lines) site skips = subst (λ lines. StandsFor h script (reverse lines) site skips) (whole script.lines most) s.stands in (
       (written_all h script i sink.before sink.after s.written most, s.faults),
@@ -134,7 +136,7 @@ says_done submits law beliefs h script i sink site skips setup s most =
     whole lines most = grind (arith, common_steps)
 
 -- an end that is told at a line's number is one at the line
-pub ends_here : (h : List ℕ → List ℕ) (script : Script) (before : List Numbered) (line : Numbered) (number : ℕ) (sink : Taking) (end : End) (fault : NameFault) → number ≡ line.0
+pub ends_here : (h : List ℕ → List ℕ) (script : Script) (before : List Numbered) (line : Numbered) (number : ℕ) (sink : Seen) (end : End) (fault : NameFault) → number ≡ line.0
     → ((names : List ℕ → List ℕ) (strings : List (List ℕ)) (text : List ℕ) → IsClashOf names strings fault → (has_clash names strings ≡ true → text ≡ clash_line number) → EndsAt names strings number text sink end)
     → IsClashOf h (named h script (line ∷ before)) fault → EndsAt h (named h script (line ∷ before)) line.0 (written_at h script before line) sink end
 ends_here h script before line number sink end fault same ends clash =

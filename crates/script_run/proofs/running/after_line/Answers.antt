@@ -39,7 +39,7 @@ returns-in_default-write_whole-clause-ends g c = λ line here.
     subst (λ lines. StandsFor h script lines c.in-Ok-after.state.site c.in-Ok-after.state.skips) (lines_more script c.args.at line here) c.in-Ok-after.ensures.stands in
     let text : c.as_bytes.result.now ≡ line_text h script before line.1 = c.as_bytes.ensures.value ∙ c.in-Ok.ensures line here in
     let same : c.as_bytes.result.now ≡ written_at h script before line = text ∙ sym (line_written h script before line c.in-Ok-after.state.site c.in-Ok-after.state.skips next) in
-    (subst (AppendsPrefix (g.K.Sink.taken c.args.sink.now) (g.K.Sink.taken c.write_whole.new.sink)) same c.write_whole.ensures.prefix, c.in_default-write_whole.ensures.cause.failed)
+    (subst (AppendsPrefix (g.K.Sink.taken c.args.sink.now) (g.K.Sink.taken c.write_whole.new.sink)) same c.write_whole.ensures.prefix, c.in_default-write_whole.ensures.counted.failed)
 
 pub returns-clause-takes : goal.returns-clause-takes
 returns-clause-takes g c = λ line here.
@@ -47,4 +47,4 @@ returns-clause-takes g c = λ line here.
     let script = c.args.script.now in
     let before = lines_before script c.args.at in
     let text : c.as_bytes.result.now ≡ line_text h script before line.1 = c.as_bytes.ensures.value ∙ c.in-Ok.ensures line here in
-    (subst (Appends (g.K.Sink.taken c.args.sink.now) (g.K.Sink.taken c.write_whole.new.sink)) text c.in-Ok-write_whole.ensures.whole, c.in-Ok-write_whole.ensures.kept)
+    (subst (Appends (g.K.Sink.taken c.args.sink.now) (g.K.Sink.taken c.write_whole.new.sink)) text c.in-Ok-write_whole.ensures.whole, c.in-Ok-write_whole.ensures.counted.kept)

@@ -10,10 +10,10 @@ pub returns-in_default-write_whole : goal.returns-in_default-write_whole
 returns-in_default-write_whole g c = λ h strings text clash is.
     let here : IsClash h strings c.in-Clash.old c.in-Clash.new = subst (IsClashOf h strings) c.in-Clash.is clash in
     let same = (c.as_bytes.ensures.value ∙ c.in-Ok.ensures) ∙ sym (is (clash_found h strings c.in-Clash.old c.in-Clash.new here)) in
-    (subst (AppendsPrefix (g.K.Sink.taken c.args.sink.now) (g.K.Sink.taken c.write_whole.new.sink)) same c.write_whole.ensures.prefix, c.in_default-write_whole.ensures.cause.failed)
+    (subst (AppendsPrefix (g.K.Sink.taken c.args.sink.now) (g.K.Sink.taken c.write_whole.new.sink)) same c.write_whole.ensures.prefix, c.in_default-write_whole.ensures.counted.failed)
 
 pub returns-in-Ok-write_whole : goal.returns-in-Ok-write_whole
 returns-in-Ok-write_whole g c = λ h strings text clash is.
     let here : IsClash h strings c.in-Clash.old c.in-Clash.new = subst (IsClashOf h strings) c.in-Clash.is clash in
     let same = (c.as_bytes.ensures.value ∙ c.in-Ok.ensures) ∙ sym (is (clash_found h strings c.in-Clash.old c.in-Clash.new here)) in
-    ((subst (Appends (g.K.Sink.taken c.args.sink.now) (g.K.Sink.taken c.write_whole.new.sink)) same c.in-Ok-write_whole.ensures.whole, c.in-Ok-write_whole.ensures.kept), refl, here)
+    ((subst (Appends (g.K.Sink.taken c.args.sink.now) (g.K.Sink.taken c.write_whole.new.sink)) same c.in-Ok-write_whole.ensures.whole, c.in-Ok-write_whole.ensures.counted.kept), refl, here)

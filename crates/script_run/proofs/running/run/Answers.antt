@@ -1,7 +1,7 @@
 use Rattle.std.proofs.Common.{◌<◌, ◌≤◌, ◌∷◌, [], length, refl, subst, arith}
 use Rattle.text_model.specs.Named.{named}
 use Rattle.text_model.specs.Text.{text_of}
-use Rattle.script_run.specs.Ends.{Taking}
+use Rattle.pond_base.specs.Outside.{Seen}
 use Rattle.script_run.specs.States.{StandsFor, lines_before}
 use Rattle.script_run.proofs.Stepping.{says_first, start_written, stands_first, stands_more, says_at, says_done, line_at}
 use Rattle.script_run.proofs.Turns.{lines_more}
@@ -24,13 +24,13 @@ returns-in-Err-after_line g c =
     let i = c.loop-at.at in
     let here : i < length script.lines = omega (arith, c.loop-at-test.true, c.len-at-end.ensures) in
     let line = line_at script.lines i here in
-    let first : Taking = record {
+    let first : Seen = record {
       before = g.K.Sink.taken c.args.sink.now;
       after = g.K.Sink.taken c.loop-at.sink;
       faults_before = g.K.Sink.faults c.args.sink.now;
       faults_after = g.K.Sink.faults c.loop-at.sink;
     } in
-    let then : Taking = record {
+    let then : Seen = record {
       before = g.K.Sink.taken c.loop-at.sink;
       after = g.K.Sink.taken c.after_line.new.sink;
       faults_before = g.K.Sink.faults c.loop-at.sink;
@@ -45,13 +45,13 @@ loop-at-preserved g c =
     let i = c.loop-at.at in
     let here : i < length script.lines = omega (arith, c.loop-at-test.true, c.len-at-end.ensures) in
     let line = line_at script.lines i here in
-    let first : Taking = record {
+    let first : Seen = record {
       before = g.K.Sink.taken c.args.sink.now;
       after = g.K.Sink.taken c.loop-at.sink;
       faults_before = g.K.Sink.faults c.args.sink.now;
       faults_after = g.K.Sink.faults c.loop-at.sink;
     } in
-    let then : Taking = record {
+    let then : Seen = record {
       before = g.K.Sink.taken c.loop-at.sink;
       after = g.K.Sink.taken c.after_line.new.sink;
       faults_before = g.K.Sink.faults c.loop-at.sink;
