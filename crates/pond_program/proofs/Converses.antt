@@ -5,11 +5,11 @@ use Rattle.script_terms.specs.declared.script.Script.{Script}
 use Rattle.script_grammar.specs.Script.{Refusal}
 use Rattle.text_model.specs.Clashes.{NoClash, IsFirstClash}
 use Rattle.text_model.specs.Named.{named}
-use Rattle.pond.specs.declared.status.Status.{Status}
-use Rattle.pond.specs.declared.status.Status.TheVariants.{Done, Usage, Refused, ReadFault, WriteFault, Clash, Memory, TooLarge}
-use Rattle.pond.proofs.Clashing.{clash_or_none}
-use Rattle.pond.specs.Exactly.{UsageWhere, RefusedWhere, TooLargeWhere, CompleteWhere, ClashWhere}
-use Rattle.pond.specs.Table.{Says, Outside}
+use Rattle.pond_program.specs.declared.status.Status.{Status}
+use Rattle.pond_program.specs.declared.status.Status.TheVariants.{Done, Usage, Refused, ReadFault, WriteFault, Clash, Memory, TooLarge}
+use Rattle.pond_program.proofs.Clashing.{clash_or_none}
+use Rattle.pond_program.specs.Exactly.{UsageWhere, RefusedWhere, TooLargeWhere, CompleteWhere, ClashWhere}
+use Rattle.pond_program.specs.Table.{Says, Outside}
 
 -- a fact of bytes that are told, from another
 told : (known : Option (List ℕ)) (P Q : List ℕ → Type 0) → IfSome known P → ((bytes : List ℕ) → P bytes → Q bytes) → IfSome known Q

@@ -2,10 +2,11 @@
 use Rattle.std.proofs.Common.{◌≡◌, ◌++◌, ℕ, List, Option, None, Some, Err, IfSome, sym, ◌∙◌, ap, subst, append-nil, inr}
 use Rattle.std.specs.Io.KnownBytes.{Consumes, IsAtEnd}
 use Rattle.script_grammar.specs.Script.{script_of}
-use Rattle.pond.specs.declared.status.Status.{Status}
-use Rattle.pond.specs.declared.status.Status.TheVariants.{Done, Usage, Refused, ReadFault, WriteFault, Clash, Memory, TooLarge}
-use Rattle.pond.specs.Runs.{RunSays}
-use Rattle.pond.specs.Table.{Says, Seen, Outside, IsRun, IsSound, IsSmall, ReadsAll, TakesText, TakesUntilClash, TakesPrefix, TakesAtMost}
+use Rattle.pond_program.specs.declared.status.Status.{Status}
+use Rattle.pond_program.specs.declared.status.Status.TheVariants.{Done, Usage, Refused, ReadFault, WriteFault, Clash, Memory, TooLarge}
+use Rattle.pond_program.specs.Runs.{RunSays}
+use Rattle.pond_base.specs.Outside.{Seen, IsSound}
+use Rattle.pond_program.specs.Table.{Says, Outside, IsRun, IsSmall, ReadsAll, TakesText, TakesUntilClash, TakesPrefix, TakesAtMost}
 
 -- these bytes are all that a source had, where it tells them
 abbrev pub IsAll : Option (List ℕ) → List ℕ → Type 0
@@ -46,5 +47,9 @@ run_says (Refused line cause) o given run read says = record {
 run_says ReadFault o given run read says = absurd says
 run_says WriteFault o given run read says = record { run = run; read = reads_all o.source given (TakesPrefix o.sink) read says.0; failed = says.1 }
 run_says (Clash line old new) o given run read says = record { run = run; read = reads_all o.source given (TakesUntilClash o.sink line old new) read says.0; sound = says.1 }
-run_says Memory o given run read says = record { run = run; written = inr (reads_all o.source given (TakesAtMost o.sink) read says) }
+run_says Memory o given run read says = record {
+  run = run;
+  unfailed = (read.sound, says.1);
+  written = inr (reads_all o.source given (TakesAtMost o.sink) read says.0);
+}
 run_says TooLarge o given run read says = absurd says

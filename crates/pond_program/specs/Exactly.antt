@@ -5,9 +5,10 @@ use Rattle.script_terms.specs.declared.script.Script.{Script}
 use Rattle.script_grammar.specs.Script.{Refusal, script_of}
 use Rattle.text_model.specs.Clashes.{NoClash}
 use Rattle.text_model.specs.Named.{named}
-use Rattle.pond.specs.declared.status.Status.{Status}
-use Rattle.pond.specs.declared.status.Status.TheVariants.{Done, Usage, Refused, ReadFault, Clash, Memory, TooLarge}
-use Rattle.pond.specs.Table.{Outside, Says, IsRun, Fails, IsSmall, most_bytes}
+use Rattle.pond_program.specs.declared.status.Status.{Status}
+use Rattle.pond_program.specs.declared.status.Status.TheVariants.{Done, Usage, Refused, ReadFault, Clash, Memory, TooLarge}
+use Rattle.pond_base.specs.Outside.{Fails}
+use Rattle.pond_program.specs.Table.{Outside, Says, IsRun, IsSmall, most_bytes}
 
 -- where the words are not `run`, the answer is Usage
 abbrev pub UsageWhere : Status → Outside → Type 0

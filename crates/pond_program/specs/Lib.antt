@@ -1,4 +1,5 @@
 pub mod Exactly
 pub mod Exit
+pub mod Lines
 pub mod Runs
 pub mod Table

@@ -2,9 +2,10 @@
 use Rattle.std.specs.Prelude.{◌≡◌, List, ℕ, Err}
 use Rattle.script_terms.specs.declared.cause.Cause.{Cause}
 use Rattle.script_grammar.specs.Script.{script_of}
-use Rattle.pond.specs.declared.status.Status.{Status}
-use Rattle.pond.specs.declared.status.Status.TheVariants.{Done, Usage, Refused, ReadFault, WriteFault, Clash, Memory, TooLarge}
-use Rattle.pond.specs.Table.{Seen, IsUnused, IsSound, Fails, TakesText, TakesUntilClash, TakesPrefix, TakesAtMost}
+use Rattle.pond_base.specs.Outside.{Seen, IsUnused, IsSound, Fails}
+use Rattle.pond_program.specs.declared.status.Status.{Status}
+use Rattle.pond_program.specs.declared.status.Status.TheVariants.{Done, Usage, Refused, ReadFault, WriteFault, Clash, Memory, TooLarge}
+use Rattle.pond_program.specs.Table.{TakesText, TakesUntilClash, TakesPrefix, TakesAtMost}
 
 -- a text that is refused
 pub record RunIsRefused (bytes : List ℕ) (line : ℕ) (cause : Cause) (sink : Seen) : Type 0 where
@@ -16,7 +17,7 @@ RunSays Done bytes sink = TakesText sink bytes × IsSound sink
 RunSays (Refused line cause) bytes sink = RunIsRefused bytes line cause sink
 RunSays WriteFault bytes sink = TakesPrefix sink bytes × Fails sink
 RunSays (Clash line old new) bytes sink = TakesUntilClash sink line old new bytes × IsSound sink
-RunSays Memory bytes sink = TakesAtMost sink bytes
+RunSays Memory bytes sink = TakesAtMost sink bytes × IsSound sink
 RunSays Usage bytes sink = ⊥
 RunSays ReadFault bytes sink = ⊥
 RunSays TooLarge bytes sink = ⊥

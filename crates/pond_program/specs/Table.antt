@@ -1,8 +1,8 @@
 -- The table of statuses: what each answer of the program says of its words, its source and its sink.
-use Rattle.std.specs.Prelude.{◌≡◌, ◌≤◌, ◌<◌, ◌⊎◌, ℕ, List, [], ◌∷◌, codes, length, reverse, Option, IfSome, Ok, Err, MatchResult, Bool, false, IsTrue}
+use Rattle.std.specs.Prelude.{◌≡◌, ◌≤◌, ◌<◌, ◌⊎◌, ℕ, List, [], ◌∷◌, codes, length, reverse, IfSome, Ok, Err, MatchResult, Bool, false, IsTrue}
 use Rattle.std.specs.Str.{bytes_eq}
 use Rattle.std.specs.Io.KnownBytes.{Appends, IsAtEnd}
-use Rattle.pond_base.specs.Outside.{Rose, AppendsPrefix}
+use Rattle.pond_base.specs.Outside.{Seen, IsUnused, Fails, IsSound, AppendsPrefix}
 use Rattle.sha1.specs.Sha1.{sha1}
 use Rattle.script_terms.specs.declared.cause.Cause.{Cause}
 use Rattle.script_terms.specs.declared.script.Script.{Script}
@@ -12,8 +12,8 @@ use Rattle.script_grammar.specs.Script.{script_of}
 use Rattle.text_model.specs.Clashes.{NoClash, IsFirstClash}
 use Rattle.text_model.specs.Named.{named}
 use Rattle.text_model.specs.Text.{text_of}
-use Rattle.pond.specs.declared.status.Status.{Status}
-use Rattle.pond.specs.declared.status.Status.TheVariants.{Done, Usage, Refused, ReadFault, WriteFault, Clash, Memory, TooLarge}
+use Rattle.pond_program.specs.declared.status.Status.{Status}
+use Rattle.pond_program.specs.declared.status.Status.TheVariants.{Done, Usage, Refused, ReadFault, WriteFault, Clash, Memory, TooLarge}
 
 -- the most bytes of a script
 abbrev pub most_bytes : ℕ
@@ -27,32 +27,11 @@ is_run words = false
 abbrev pub IsRun : List (List ℕ) → Type 0
 IsRun words = IsTrue (is_run words)
 
--- what a call saw of a source or a sink: the bytes left in it or taken by it, where it tells them, and
--- its count of faults, as the call began and as it ended
-pub record Seen : Type 0 where
-  pub before : Option (List ℕ)
-  pub after : Option (List ℕ)
-  pub faults_before : ℕ
-  pub faults_after : ℕ
-
 -- what a call of the program saw of the outside
 pub record Outside : Type 0 where
   pub words : List (List ℕ)
   pub source : Seen
   pub sink : Seen
-
--- it was not called
-pub record IsUnused (seen : Seen) : Type 0 where
-  pub same : seen.after ≡ seen.before
-  pub faults : seen.faults_after ≡ seen.faults_before
-
--- its count of faults rose
-abbrev pub Fails : Seen → Type 0
-Fails seen = Rose seen.faults_before seen.faults_after
-
--- its count of faults is as it was
-abbrev pub IsSound : Seen → Type 0
-IsSound seen = seen.faults_after ≡ seen.faults_before
 
 -- the sink took the whole text of the script that some bytes are, no two of whose strings clash, whose members executed one list, and what whose clients believed is so
 abbrev pub TakesText : Seen → List ℕ → Type 0
@@ -101,13 +80,13 @@ pub record IsRefused (o : Outside) (line : ℕ) (cause : Cause) : Type 0 where
   pub read : ReadsAll o.source (λ bytes. script_of bytes ≡ Err (record { line = line; cause = cause }))
   pub unwritten : IsUnused o.sink
 
--- the source failed
+-- the last take of the source failed
 pub record IsReadFault (o : Outside) : Type 0 where
   pub run : IsRun o.words
   pub failed : Fails o.source
   pub unwritten : IsUnused o.sink
 
--- the sink failed while the script was run
+-- the last take of the sink failed while the script was run
 pub record IsWriteFault (o : Outside) : Type 0 where
   pub run : IsRun o.words
   pub read : ReadsAll o.source (TakesPrefix o.sink)
@@ -122,11 +101,13 @@ pub record IsClashed (o : Outside) (line : ℕ) (old new : List ℕ) : Type 0 wh
 -- memory ran out: before anything was written, or while the script was run
 pub record IsMemory (o : Outside) : Type 0 where
   pub run : IsRun o.words
+  pub unfailed : IsSound o.source × IsSound o.sink
   pub written : IsUnused o.sink ⊎ ReadsAll o.source (TakesAtMost o.sink)
 
 -- the source gave more bytes than a script may have
 pub record IsTooLarge (o : Outside) : Type 0 where
   pub run : IsRun o.words
+  pub unfailed : IsSound o.source
   pub large : IfSome o.source.before (λ bytes. most_bytes < length bytes)
   pub unwritten : IsUnused o.sink
 

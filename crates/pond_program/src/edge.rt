@@ -1,11 +1,8 @@
-// Standard input and output, as a source and a sink. They tell no content: what the system gives and
-// takes is outside of every contract.
-ghost use Rattle.std.specs.Prelude.{None};
-
+// Standard input and output, as a source and a sink.
 use pond_base::{Failed, Sink, Source};
 use std::io::{Read, Write};
 
-/// A source over a reader.
+/// A source over a reader. The bytes left are those that the reader has left, where it tells them.
 #[derive(Drop)]
 pub struct InputSource<R: Read + Drop> {
     inner: R,
@@ -13,13 +10,19 @@ pub struct InputSource<R: Read + Drop> {
 }
 
 impl<R: Read + Drop> InputSource<R> {
-    pub fn new(inner: R) -> Self {
+    ghost use Rattle.std.specs.Prelude.{◌≡◌};
+
+    /// A source over a reader, of no fault yet.
+    pub fn new(inner: R) -> Self
+        ensures inner { result.inner ≡ inner }
+        ensures faults { result.faults ≡ 0 }
+    {
         InputSource { inner, faults: 0 }
     }
 }
 
 impl<R: Read + Drop> Source for InputSource<R> {
-    ghost left = { λ _. None };
+    ghost left = { λ source. R.remaining source.inner };
 
     ghost faults = { λ source. source.faults };
 
@@ -34,7 +37,8 @@ impl<R: Read + Drop> Source for InputSource<R> {
     }
 }
 
-/// A sink over a writer.
+/// A sink over a writer. The bytes taken are those that the writer holds, where it tells them. A
+/// writer that takes nothing has failed.
 #[derive(Drop)]
 pub struct OutputSink<W: Write + Drop> {
     inner: W,
@@ -42,13 +46,19 @@ pub struct OutputSink<W: Write + Drop> {
 }
 
 impl<W: Write + Drop> OutputSink<W> {
-    pub fn new(inner: W) -> Self {
+    ghost use Rattle.std.specs.Prelude.{◌≡◌};
+
+    /// A sink over a writer, of no fault yet.
+    pub fn new(inner: W) -> Self
+        ensures inner { result.inner ≡ inner }
+        ensures faults { result.faults ≡ 0 }
+    {
         OutputSink { inner, faults: 0 }
     }
 }
 
 impl<W: Write + Drop> Sink for OutputSink<W> {
-    ghost taken = { λ _. None };
+    ghost taken = { λ sink. W.contents sink.inner };
 
     ghost faults = { λ sink. sink.faults };
 

@@ -3,6 +3,7 @@ ghost use Rattle.std.specs.Prelude.{◌≡◌};
 
 use bytes::Bytes;
 use script_text::Cause;
+use std::fmt;
 
 /// How a call of the program ends.
 #[derive(Debug, Drop, PartialEq, Eq)]
@@ -27,7 +28,8 @@ pub enum Status {
 }
 
 impl Status {
-    ghost use Rattle.pond.specs.Exit.{exit_of};
+    ghost use Rattle.pond_program.specs.Exit.{exit_of};
+    ghost use Rattle.pond_program.specs.Lines as lines;
 
     /// The exit status of the program.
     pub fn exit(&self) -> u8
@@ -42,6 +44,37 @@ impl Status {
             Status::Clash { .. } => 6,
             Status::Memory => 7,
             Status::TooLarge => 8,
+        }
+    }
+
+    /// Whether standard error gets a line; else the text or the exit status alone tells it.
+    pub fn has_line(&self) -> bool
+        ensures { result ≡ lines.has_line self.now }
+    {
+        match self {
+            Status::Usage | Status::Refused { .. } | Status::ReadFault | Status::TooLarge => true,
+            Status::Done | Status::WriteFault | Status::Clash { .. } | Status::Memory => false,
+        }
+    }
+}
+
+// A status displays as its line on standard error, and as nothing where it has none.
+impl fmt::Display for Status {
+    ghost use Rattle.std.specs.Prelude.{Some};
+    ghost use Rattle.pond_program.specs.Lines.{line_of};
+
+    ghost output = { λ status. Some (line_of status) };
+
+    fn fmt<W: fmt::Write>(&self, f: &mut fmt::Formatter<W>) -> fmt::Result {
+        match self {
+            Status::Usage => f.write_str("pond: usage: pond run"),
+            Status::Refused { line, cause } => {
+                let word = cause.word();
+                write!(f, "pond: line {line}: {word}")
+            }
+            Status::ReadFault => f.write_str("pond: read fault"),
+            Status::TooLarge => f.write_str("pond: script too large"),
+            Status::Done | Status::WriteFault | Status::Clash { .. } | Status::Memory => Ok(()),
         }
     }
 }

@@ -1,9 +1,9 @@
 // The top call.
 ghost use Rattle.std.specs.Prelude.{◌≡◌, ◌≤◌, length, map, string_bytes};
-ghost use Rattle.pond.specs.Exactly.{Answers};
-ghost use Rattle.pond.specs.Runs.{RunSays};
-ghost use Rattle.pond.specs.Table.{Says, most_bytes};
-ghost use Rattle.pond.specs.Table as table;
+ghost use Rattle.pond_program.specs.Exactly.{Answers};
+ghost use Rattle.pond_program.specs.Runs.{RunSays};
+ghost use Rattle.pond_program.specs.Table.{Says, most_bytes};
+ghost use Rattle.pond_program.specs.Table as table;
 
 use crate::status::Status;
 use block_names::Sha1Hash;

@@ -1,13 +1,13 @@
 use Rattle.std.proofs.Common.{sym}
-use Rattle.pond.proofs.Said.{run_says, gave_all}
-use Rattle.pond.proofs.top.answer.Goals as goal
+use Rattle.pond_program.proofs.Said.{run_says, gave_all}
+use Rattle.pond_program.proofs.top.answer.Goals as goal
 
 pub returns-in-Ok : goal.returns-in-Ok
 returns-in-Ok g c =
     run_says c.run_text.result _ c.in-Ok.text.items (sym c.if-not-is_run.ensures)
     record {
       ended = c.in-Ok.ensures.ended;
-      sound = c.in-Ok.ensures.kept;
+      sound = c.in-Ok.ensures.counted;
       all = gave_all _ _ _ c.in-Ok.ensures.whole c.in-Ok.ensures.ended;
       small = c.in-Ok.ensures.small;
     }

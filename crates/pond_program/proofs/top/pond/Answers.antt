@@ -1,5 +1,5 @@
-use Rattle.pond.proofs.Converses.{usage_where, refused_where, too_large_where, complete_where, clash_where}
-use Rattle.pond.proofs.top.pond.Goals as goal
+use Rattle.pond_program.proofs.Converses.{usage_where, refused_where, too_large_where, complete_where, clash_where}
+use Rattle.pond_program.proofs.top.pond.Goals as goal
 
 pub returns : goal.returns
 returns g c = record {

@@ -1,5 +1,0 @@
-use Rattle.script_limits.proofs.Within.{within}
-use Rattle.pond.proofs.tests.run_text.Goals as goal
-
-pub run-requires : goal.run-requires
-run-requires g c = within c.args.text.now c.in-Ok.script c.in-Ok.ensures
