@@ -2,6 +2,7 @@
 use Rattle.std.proofs.Common.{◌≡◌, ◌⊎◌, ◌||◌, Bool, true, false, cond, ℕ, List, [], ◌∷◌, refl, ap, sym, ◌∙◌, inl, inr}
 use Rattle.std.specs.Str.{bytes_eq}
 use Rattle.std.proofs.lemmas.Slice.Eq.{bytes_eq-Decides}
+use Rattle.object_model.specs.Laws.{IsOnce}
 use Rattle.object_model.specs.Trees.{stands_in, first_times}
 
 or_cases : (a b : Bool) → (a || b) ≡ true → (a ≡ true) ⊎ ((a ≡ false) × (b ≡ true))
@@ -46,3 +47,24 @@ are_covered s known (x ∷ strings) h = elim (or_cases (bytes_eq s x) (stands_in
   | inl e ↦ first_covered s x known strings (stands_in x known) refl e
   | inr p ↦ rest_covered s x known strings (stands_in x known) p.0 (are_covered s known strings p.1) (are_covered s (x ∷ known) strings p.1)
 ]
+
+itself : (x : List ℕ) → bytes_eq x x ≡ true
+itself x = (bytes_eq-Decides x x).1 refl
+
+-- what is known already is not new
+not_new : (x : List ℕ) (known strings : List (List ℕ)) (there : Bool) → stands_in x (first_times (x ∷ known) strings) ≡ there → there ≡ false
+not_new x known strings false is = refl
+not_new x known strings true is = absurd (differ (ap (λ b. b || stands_in x known) (sym (itself x)) ∙ are_new x (x ∷ known) strings is))
+  where
+    differ : true ≡ false → ⊥
+    differ e = absurd (cc)
+
+once_step : (x : List ℕ) (known strings : List (List ℕ)) (there : Bool) → IsOnce (first_times known strings) → IsOnce (first_times (x ∷ known) strings)
+    → IsOnce (cond there (first_times known strings) (x ∷ first_times (x ∷ known) strings))
+once_step x known strings true before more = before
+once_step x known strings false before more = (not_new x known strings (stands_in x (first_times (x ∷ known) strings)) refl, more)
+
+-- what is new is listed once
+pub are_once : (known strings : List (List ℕ)) → IsOnce (first_times known strings)
+are_once known [] = tt
+are_once known (x ∷ strings) = once_step x known strings (stands_in x known) (are_once known strings) (are_once (x ∷ known) strings)

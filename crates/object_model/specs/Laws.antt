@@ -56,6 +56,15 @@ abbrev pub NoStringIsLeftOut : Type 0
 NoStringIsLeftOut = (h : List ℕ → List ℕ) (block : ℕ) (content : List ℕ) (older : List (List ℕ)) (string : List ℕ) → stands_in string (version_strings h block content older) ≡ true
     → (stands_in string (strings_so_far h block older) ≡ true) ⊎ (stands_in string (new_strings h block content older) ≡ true)
 
+-- no string stands twice in a list
+abbrev pub IsOnce : List (List ℕ) → Type 0
+IsOnce [] = Unit {0}
+IsOnce (string ∷ strings) = (stands_in string strings ≡ false) × IsOnce strings
+
+-- the new strings of a version are listed once
+abbrev pub NewStringsAreListedOnce : Type 0
+NewStringsAreListedOnce = (h : List ℕ → List ℕ) (block : ℕ) (content : List ℕ) (older : List (List ℕ)) → IsOnce (new_strings h block content older)
+
 -- the bytes of the text hello
 abbrev pub hello : List ℕ
 hello = 104 ∷ 101 ∷ 108 ∷ 108 ∷ 111 ∷ []

@@ -50,6 +50,11 @@ pub fn no_string_is_left_out()
     ensures { law.NoStringIsLeftOut }
 {}
 
+/// The strings that are new in a version are listed once.
+pub fn new_strings_are_listed_once()
+    ensures { law.NewStringsAreListedOnce }
+{}
+
 /// Each action on five bytes.
 pub fn worked_actions()
     ensures { law.WorkedActions }
