@@ -1,12 +1,9 @@
 //! Four members of a ring with f = 1 are handed 1,024 requests, and all messages that these cause.
 //!
-//! With the argument `time` it says how long that takes, for more requests too. The tests of a member
-//! stand here too, so that the member's own proof is not made twice.
+//! With the argument `time` it says how long that takes, for more requests too.
 #![tactic(auto)]
 
 mod feeding;
-#[cfg(test)]
-mod tests;
 mod timing;
 
 use feeding::feed;

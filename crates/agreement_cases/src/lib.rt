@@ -1,0 +1,15 @@
+//! The cases of agreement: votes, requests, messages and events, and what is told of them.
+#![tactic(auto)]
+
+#[cfg(test)]
+mod clients;
+#[cfg(test)]
+mod ends;
+#[cfg(test)]
+mod members;
+#[cfg(test)]
+mod orders;
+#[cfg(test)]
+mod sites;
+#[cfg(test)]
+mod votes;

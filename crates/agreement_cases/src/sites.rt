@@ -1,0 +1,299 @@
+// What no script shows of a ring: what each event answers, and how many strings are named.
+ghost use Rattle.std.specs.Prelude.{IfOk};
+ghost use Rattle.pond_world.specs.Setups.{IsSetup};
+
+use block_names::Sha1Hash;
+use bytes::Bytes;
+use guarded_update::Setup;
+use pond_base::{ClientId, Items, MemberId, Party};
+use pond_world::{Site, events_may_come, ring_is_sound, worlds_stay_known};
+use ring_world::{Event, Said, Skips};
+use std::alloc::Global;
+use std::test::Fail;
+
+// What happens to a site. Client 0 submits the update of a request, or appends so many bytes to `a`.
+enum Step {
+    Submit(&'static str),
+    AppendMany(u32),
+    Resubmit(u32),
+    Deliver(Party, Party, u32),
+    Forge(u8, Party, &'static str),
+    Settle,
+    // A string is named by the site, and in its book apart from its world.
+    Name(&'static str),
+    NameApart(&'static str),
+    Namings,
+    Submitted,
+}
+
+const M0: Party = Party::Member(MemberId(0));
+
+const M1: Party = Party::Member(MemberId(1));
+
+const C0: Party = Party::Client(ClientId(0));
+
+// Append 61 to `a`, and replace 0 3c.
+const APPEND: &str = "0600000000010161010001020000000161";
+
+const CHANGE: &str = "06000000000201610100010100000000000000013c";
+
+// How many faults a ring tolerates, its faulty members, what happens to it, and what is told: what each
+// event answers, and whether a settle named no string, few, fewer than 69, or many.
+const CASES: &[(u8, &[u8], &[Step], &str)] = &[
+    // 65 leaves, of which one is changed.
+    (
+        0,
+        &[],
+        &[
+            Step::AppendMany(4_097),
+            Step::Settle,
+            Step::Submit(CHANGE),
+            Step::Settle,
+            Step::Settle,
+            Step::Submitted,
+        ],
+        "sent 1\nmany\nsent 1\nfew\nnone\nsubmitted 2\n",
+    ),
+    // Each of four members names the empty version; then others name strings in the same book.
+    (
+        1,
+        &[],
+        &[
+            Step::Namings,
+            Step::NameApart("6265747765656e"),
+            Step::Namings,
+            Step::Submit(APPEND),
+            Step::Name("6166746572"),
+        ],
+        "namings 4\nnamed\nnamings 5\nsent 4\nnamed\n",
+    ),
+    // A request goes to four members, the primary orders it, and a lying member sends one message.
+    (
+        1,
+        &[3],
+        &[
+            Step::Submit(APPEND),
+            Step::Forge(3, M0, "1300"),
+            Step::Deliver(M1, M0, 1),
+            Step::Deliver(C0, M0, 1),
+            Step::Resubmit(1),
+            Step::Submitted,
+        ],
+        "sent 4\nsent 1\nnothing\nsent 4\nsent 4\nsubmitted 1\n",
+    ),
+];
+
+fn faulty(alloc: Global, ids: &[u8]) -> Result<Items<MemberId>, Fail> {
+    let mut members = Items::new(alloc);
+    for id in ids {
+        members.push(MemberId(*id))?;
+    }
+    Ok(members)
+}
+
+// A ring of one client, whose objects have leaves of 64 bytes.
+fn setup(alloc: Global, f: u8, ids: &[u8]) -> Result<Setup, Fail>
+    ensures { IfOk result IsSetup }
+{
+    let faulty = faulty(alloc, ids)?;
+    if f > 3 || faulty.len() > f as usize {
+        return Err(Fail::new("a setup past the limits"));
+    }
+    Ok(Setup {
+        f,
+        faulty,
+        clients: 1,
+        block: 64,
+        m: 1,
+        n: 2,
+        newer: None,
+    })
+}
+
+fn site(alloc: Global, f: u8, ids: &[u8]) -> Result<Site<Sha1Hash>, Fail> {
+    let setup = setup(alloc, f, ids)?;
+    Ok(Site::open(alloc, Sha1Hash, &setup)?)
+}
+
+fn bytes_of(alloc: Global, digits: &str) -> Result<Bytes, Fail> {
+    Ok(Bytes::from_vec(hex::decode(alloc, digits)?)?)
+}
+
+// A submit of client 0 with the label and the update of a request.
+fn submit(alloc: Global, string: &[u8]) -> Result<Event, Fail> {
+    let request = guarded_update::read(alloc, string)?;
+    Ok(Event::Submit {
+        client: ClientId(0),
+        label: request.label,
+        update: request.update,
+    })
+}
+
+// An append to the object `a` of so many bytes, no two of whose whole leaves are alike.
+fn append_many(alloc: Global, count: u32) -> Result<Event, Fail> {
+    let head = format!(in alloc; "060000000001016101000102{count:08x}")?;
+    let mut string = hex::decode(alloc, head.as_str())?;
+    for at in 0..count {
+        string.push((at / 64 % 251) as u8 ^ (at % 64) as u8)?;
+    }
+    submit(alloc, string.as_slice())
+}
+
+fn forge(alloc: Global, member: u8, to: Party, digits: &str) -> Result<Event, Fail> {
+    Ok(Event::Forge {
+        member: MemberId(member),
+        to,
+        bytes: bytes_of(alloc, digits)?,
+    })
+}
+
+fn line(alloc: Global, text: &str) -> Result<String, Fail> {
+    Ok(format!(in alloc; "{text}\n")?)
+}
+
+fn numbered(alloc: Global, word: &str, number: u64) -> Result<String, Fail> {
+    Ok(format!(in alloc; "{word} {number}\n")?)
+}
+
+fn said_line(alloc: Global, said: Said) -> Result<String, Fail> {
+    match said {
+        Said::Nothing => line(alloc, "nothing"),
+        Said::Sent(count) => numbered(alloc, "sent", u64::from(count)),
+    }
+}
+
+// A site after an event, and what it answered.
+fn happens(site: Site<Sha1Hash>, event: Event) -> Result<(Site<Sha1Hash>, Said), Fail> {
+    if !site.world().may(&event) {
+        return Err(Fail::new("no such event"));
+    }
+    Ok(site.step(event)?)
+}
+
+fn after(
+    alloc: Global,
+    site: Site<Sha1Hash>,
+    event: Event,
+    text: &mut String,
+) -> Result<Site<Sha1Hash>, Fail> {
+    let (site, said) = happens(site, event)?;
+    text.push_str(said_line(alloc, said)?.as_str())?;
+    Ok(site)
+}
+
+fn amount(namings: u64) -> &'static str {
+    if namings == 0 {
+        "none\n"
+    } else if namings < 69 {
+        "few\n"
+    } else {
+        "many\n"
+    }
+}
+
+fn settle(alloc: Global, site: Site<Sha1Hash>, text: &mut String) -> Result<Site<Sha1Hash>, Fail> {
+    let skips = Skips {
+        muted: Vec::new(alloc),
+        lost: Vec::new(alloc),
+    };
+    let before = site.book().namings();
+    let (site, _count) = site.settle(&skips)?;
+    text.push_str(amount(site.book().namings().saturating_sub(before)))?;
+    Ok(site)
+}
+
+fn name(alloc: Global, site: Site<Sha1Hash>, digits: &str) -> Result<Site<Sha1Hash>, Fail> {
+    let bytes = bytes_of(alloc, digits)?;
+    let (site, _name) = site.name(bytes.as_slice())?;
+    Ok(site)
+}
+
+// A site after a string was named in its book.
+fn named(site: Site<Sha1Hash>, bytes: &[u8]) -> Result<Site<Sha1Hash>, Fail> {
+    worlds_stay_known();
+    let (mut book, world) = site.into_parts();
+    book.name(bytes)?;
+    Ok(Site::of(book, world))
+}
+
+fn name_apart(alloc: Global, site: Site<Sha1Hash>, digits: &str) -> Result<Site<Sha1Hash>, Fail> {
+    let bytes = bytes_of(alloc, digits)?;
+    named(site, bytes.as_slice())
+}
+
+// How many requests client 0 has submitted.
+fn submitted(alloc: Global, site: &Site<Sha1Hash>) -> Result<String, Fail> {
+    let client = ClientId(0);
+    if !site.world().may(&Event::Resubmit { client, number: 1 }) {
+        return Err(Fail::new("no request"));
+    }
+    numbered(
+        alloc,
+        "submitted",
+        u64::from(site.client(client).submitted()),
+    )
+}
+
+fn event(alloc: Global, step: &Step) -> Result<Event, Fail> {
+    match step {
+        Step::Submit(digits) => submit(alloc, bytes_of(alloc, digits)?.as_slice()),
+        Step::AppendMany(count) => append_many(alloc, *count),
+        Step::Resubmit(number) => Ok(Event::Resubmit {
+            client: ClientId(0),
+            number: *number,
+        }),
+        Step::Deliver(from, to, place) => Ok(Event::Deliver {
+            from: *from,
+            to: *to,
+            place: *place,
+        }),
+        Step::Forge(member, to, digits) => forge(alloc, *member, *to, digits),
+        _ => Err(Fail::new("no event")),
+    }
+}
+
+// What is told of a site that stays as it is.
+fn look(alloc: Global, site: &Site<Sha1Hash>, step: &Step) -> Result<String, Fail> {
+    match step {
+        Step::Namings => numbered(alloc, "namings", site.book().namings()),
+        Step::Submitted => submitted(alloc, site),
+        _ => line(alloc, "named"),
+    }
+}
+
+fn run_step(
+    alloc: Global,
+    site: Site<Sha1Hash>,
+    step: &Step,
+    text: &mut String,
+) -> Result<Site<Sha1Hash>, Fail> {
+    match step {
+        Step::Settle => settle(alloc, site, text),
+        Step::Name(digits) => name(alloc, site, digits),
+        Step::NameApart(digits) => name_apart(alloc, site, digits),
+        Step::Namings | Step::Submitted => Ok(site),
+        _ => after(alloc, site, event(alloc, step)?, text),
+    }
+}
+
+fn told(alloc: Global, f: u8, ids: &[u8], steps: &[Step]) -> Result<String, Fail> {
+    let mut text = String::new(alloc);
+    let mut site = site(alloc, f, ids)?;
+    for step in steps {
+        site = run_step(alloc, site, step, &mut text)?;
+        if let Step::Name(_) | Step::NameApart(_) | Step::Namings | Step::Submitted = step {
+            text.push_str(look(alloc, &site, step)?.as_str())?;
+        }
+    }
+    Ok(text)
+}
+
+#[test]
+fn cases(rt: HostRuntime) -> Result<(), Fail> {
+    for (f, ids, steps, wanted) in CASES {
+        assert_eq!(rt; told(rt.alloc(), *f, ids, steps)?.as_str(), *wanted);
+    }
+    events_may_come();
+    ring_is_sound();
+    Ok(())
+}
