@@ -16,6 +16,7 @@
 #![tactic(auto)]
 
 mod building;
+mod changed;
 mod contents;
 mod draft;
 mod edits;
@@ -25,6 +26,7 @@ mod leaf_row;
 mod leaves;
 mod lookup;
 mod node;
+mod own;
 mod row;
 mod rows;
 mod shared;
@@ -34,6 +36,7 @@ mod walk_nodes;
 mod walking;
 
 pub use lookup::Lookup;
+pub use node::Node;
 pub use span::Span;
 pub use tree::{Tree, trees_stay};
 pub use walking::{Walked, needed_strings_are_strings, walk};
