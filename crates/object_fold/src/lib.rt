@@ -8,6 +8,7 @@
 //! A version costs memory for what changed, and for its rows of names.
 #![tactic(auto)]
 
+mod added;
 mod choice;
 mod decision;
 mod fate;
