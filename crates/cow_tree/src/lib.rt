@@ -4,10 +4,11 @@
 //! A [`Tree`] is one version. It stands on the strings of `tree_format`, the book of `block_names` and
 //! the definitions of `object_model`. A tree stands for a list of versions, the newest first: that is a
 //! relation, `StandsFor`, which the contracts quantify over, and the older versions are not kept in it.
-//! A new version keeps the strings and names of what did not change, and the book's count rises by at
-//! most (t + 1)(h + 2) + 1, where t leaves changed and h is the greater height. The layer above uses
+//! A new version shares with the older one the nodes of what did not change, and the book's count rises by
+//! at most (t + 1)(h + 2) + 1, where t leaves changed and h is the greater height. The layer above uses
 //! that `apply` takes the tree of a list of versions to the tree of that list and the changed bytes,
-//! and that a tree stays one as the book grows.
+//! that `changed_nodes` gives the nodes where two trees differ, and that a tree stays one as the book
+//! grows.
 //!
 //! A [`walk`] goes over the tree of a version from its name alone. It asks a [`Lookup`] for the strings,
 //! which finds some of them and need not be trusted: it comes to the wanted bytes of that very version,
@@ -16,6 +17,7 @@
 #![tactic(auto)]
 
 mod building;
+mod changed;
 mod contents;
 mod draft;
 mod edits;
@@ -25,6 +27,7 @@ mod leaf_row;
 mod leaves;
 mod lookup;
 mod node;
+mod own;
 mod row;
 mod rows;
 mod shared;
@@ -34,6 +37,7 @@ mod walk_nodes;
 mod walking;
 
 pub use lookup::Lookup;
+pub use node::Node;
 pub use span::Span;
 pub use tree::{Tree, trees_stay};
 pub use walking::{Walked, needed_strings_are_strings, walk};

@@ -1,5 +1,5 @@
 -- What the execution of one request comes to, at each of its ends.
-use Rattle.std.proofs.Common.{◌≡◌, ◌+◌, ◌<◌, ◌≤◌, ◌^◌, ℕ, false, List, [], ◌∷◌, length, drop, All, Err, slice_index_or, suc, ap, sym, ◌∙◌, subst, arith}
+use Rattle.std.proofs.Common.{◌≡◌, ◌+◌, ◌<◌, ◌≤◌, ◌^◌, ℕ, true, false, List, [], ◌∷◌, length, drop, All, Err, slice_index_or, suc, ap, sym, ◌∙◌, subst, arith}
 use Rattle.std.specs.Prelude.{IsOk, Contains}
 use Rattle.block_names.specs.Held.{Held}
 use Rattle.block_names.specs.Growth.{Grew}
@@ -10,14 +10,18 @@ use Rattle.object_model.specs.Trees.{version_strings}
 use Rattle.object_model.specs.Updates.{Refusal, newest, outcome, act_all}
 use Rattle.object_model.specs.Folds.{Makes, Refuses, made_by, versions_after}
 use Rattle.ring_message.specs.declared.outcome.Outcome.TheVariants as told
-use Rattle.cow_tree.specs.Views.{TreeView}
+use Rattle.cow_tree.specs.Views.{NodeView, TreeView}
+use Rattle.cow_tree.specs.Changed.{changed_nodes}
 use Rattle.cow_tree.specs.Namings.{most_namings}
 use Rattle.cow_tree.specs.Versions.{StandsFor, ForNext, IsTreeIn, content_of}
 use Rattle.cow_tree.proofs.Standing.{stays, stood_for}
 use Rattle.object_fold.specs.Views.{ShelfView, ObjectsView}
-use Rattle.object_fold.specs.Shelves.{trees_in, later_at, last_tree, newest_in}
+use Rattle.object_fold.specs.Shelves.{trees_in, trees_of, later_at, last_tree, newest_in}
 use Rattle.object_fold.specs.Executed.{is_seen, AreAfter, AreKnown, SeesOneMore, KeepsTree, effect_after, outcome_of, outcome_after, strings_of_effect, strings_named, most_for_effect, most_named}
-use Rattle.object_fold.proofs.ExecutedLemmas.{split, newest_for, few_made, effect_first, after_refusal, after_made, more_known, for_made}
+use Rattle.std.proofs.lemmas.List.Elements.{recursion_from_All}
+use Rattle.object_fold.proofs.HeldStrings.{all_held, held_strings}
+use Rattle.object_fold.proofs.NewStrings.{AreNew, are_new}
+use Rattle.object_fold.proofs.ExecutedLemmas.{split, newest_for, few_made, effect_first, after_repeat, after_refusal, after_made, more_known, for_made}
 
 -- what holds of each tree holds of the last
 last_one : (P : TreeView → Type 0) (first : TreeView) (trees : List TreeView) → P first → ((k : ℕ) (d : TreeView) → k < length trees → P (slice_index_or trees k d)) → P (last_tree first trees)
@@ -25,6 +29,10 @@ last_one P first [] one all = one
 last_one P first (tree ∷ trees) one all = last_one P tree trees (all 0 first (omega arith)) (λ k d l. all (suc k) d (omega arith))
 
 module _ (h : List ℕ → List ℕ) (old inside : ObjectsView) (view : inside ≡ old) (request : Request) where
+  -- a request that was executed before changes nothing
+  pub again_after : true ≡ is_seen inside.seen request → (block : ℕ) (earlier : List Request) → AreAfter h block earlier old → AreAfter h block (request ∷ earlier) old
+  again_after seen block earlier after = after_repeat h block request earlier old after (ap (λ (o : ObjectsView). is_seen o.seen request) (sym view) ∙ sym seen)
+
   module _ (clauses : List Clause) (same : clauses ≡ request.update.clauses) (one two : TreeView) (is_one : one ≡ newest_in inside.trees request.label) (is_two : two ≡ newest_in inside.trees request.label)
       (seen : false ≡ is_seen inside.seen request) where
     is_new : is_seen old.seen request ≡ false
@@ -48,17 +56,17 @@ module _ (h : List ℕ → List ℕ) (old inside : ObjectsView) (view : inside �
       pub refused_effect : (block : ℕ) (earlier : List Request) → AreAfter h block earlier old → effect_after h block request earlier ≡ Refuses refusal
       refused_effect block earlier after = effect_first h block request earlier old after is_new (Err refusal) (refused block earlier after)
 
-      pub refused_after : (new : ObjectsView) → new.trees ≡ inside.trees → new.made ≡ inside.made → SeesOneMore inside.seen new.seen request
+      pub refused_after : (new : ObjectsView) → new.trees ≡ inside.trees → new.added ≡ inside.added → new.made ≡ inside.made → SeesOneMore inside.seen new.seen request
           → (block : ℕ) (earlier : List Request) → AreAfter h block earlier old → AreAfter h block (request ∷ earlier) new
-      refused_after new trees made more block earlier after =
+      refused_after new trees added made more block earlier after =
           after_refusal h block request earlier old after new refusal is_new (refused block earlier after)
-          (trees ∙ ap (λ (o : ObjectsView). o.trees) view) (made ∙ ap (λ (o : ObjectsView). o.made) view) (subst (λ (o : ObjectsView). SeesOneMore o.seen new.seen request) view more)
+          (trees ∙ ap (λ (o : ObjectsView). o.trees) view) (added ∙ ap (λ (o : ObjectsView). o.added) view) (made ∙ ap (λ (o : ObjectsView). o.made) view) (subst (λ (o : ObjectsView). SeesOneMore o.seen new.seen request) view more)
 
-      pub refused_known : (held : Held) (new : ObjectsView) → new.trees ≡ inside.trees → new.made ≡ inside.made → SeesOneMore inside.seen new.seen request → AreKnown h held old → AreKnown h held new
-      refused_known held new trees made more known = record {
+      pub refused_known : (held : Held) (new : ObjectsView) → new.trees ≡ inside.trees → new.added ≡ inside.added → new.made ≡ inside.made → SeesOneMore inside.seen new.seen request → AreKnown h held old → AreKnown h held new
+      refused_known held new trees added made more known = record {
         block = known.block;
         requests = request ∷ known.requests;
-        after = refused_after new trees made more known.block known.requests known.after;
+        after = refused_after new trees added made more known.block known.requests known.after;
         known = λ label. subst (λ (s : ShelfView). All (IsTreeIn h held) (trees_in s label)) (sym (trees ∙ ap (λ (o : ObjectsView). o.trees) view)) (known.known label);
       }
 
@@ -117,18 +125,28 @@ module _ (h : List ℕ → List ℕ) (old inside : ObjectsView) (view : inside �
             let m = next_made (λ block content older. StandsFor h block tree content older) stands block earlier after in
             ap (λ (t : TreeView). told.Made t.root.version t.name) m.2 ∙ sym (ap (λ e. outcome_of h block e (versions_after h block request.label earlier)) m.1)
 
-        pub made_after : (new : ObjectsView) → KeepsTree old new request tree → (block : ℕ) (earlier : List Request) → AreAfter h block earlier old → AreAfter h block (request ∷ earlier) new
-        made_after new keeps block earlier after =
-            let m = next_made (λ block content older. StandsFor h block tree content older) stands block earlier after in
-            after_made h block request earlier old after new m.0 tree m.1 m.2 keeps
+        module _ (held now : Held) (new : ObjectsView) (changed : List NodeView) (known : AreKnown h held old) (keeps : KeepsTree old new request tree changed) (changes : changed ≡ changed_nodes tree two)
+            (made : IsTreeIn h now tree) (grew : ForNext h two actions (λ block content older. Grew h held (Contains (version_strings h block content older)) now)) where
+          -- all trees are held still
+          all_still : (label : List ℕ) → All (IsTreeIn h now) (trees_in old.trees label)
+          all_still label k d l =
+              stays h held now (slice_index_or (trees_in old.trees label) k d) (next_strings (λ strings. Grew h held (Contains strings) now) grew known.block known.requests known.after).kept (known.known label k d l)
 
-        pub made_known : (held now : Held) (new : ObjectsView) → KeepsTree old new request tree → IsTreeIn h now tree
-            → ForNext h two actions (λ block content older. Grew h held (Contains (version_strings h block content older)) now) → AreKnown h held old → AreKnown h now new
-        made_known held now new keeps one grew known =
-            let g = next_strings (λ strings. Grew h held (Contains strings) now) grew known.block known.requests known.after in
-            record {
-              block = known.block;
-              requests = request ∷ known.requests;
-              after = made_after new keeps known.block known.requests known.after;
-              known = more_known h now old.trees new.trees request.label tree keeps.trees (λ other k d l. stays h held now (slice_index_or (trees_in old.trees other) k d) g.kept (known.known other k d l)) one;
-            }
+          pub made_after : (block : ℕ) (earlier : List Request) → AreAfter h block earlier old → AreAfter h block (request ∷ earlier) new
+          made_after block earlier after =
+              let m = next_made (λ block content older. StandsFor h block tree content older) stands block earlier after in
+              let versions : List (List ℕ) = versions_after h block request.label earlier in
+              let all = all_held h now block versions (recursion_from_All (IsTreeIn h now) (trees_of h block versions) (subst (All (IsTreeIn h now)) (after.trees request.label) (all_still request.label))) in
+              let before = newest_for h block earlier old after request.label in
+              let news : AreNew h block (changed_nodes tree (newest_in old.trees request.label)) m.0 versions =
+              are_new h now block tree (newest_in old.trees request.label) m.0 versions (split request.label (made_by h block earlier)) m.2 before all (held_strings h now block m.0 versions (subst (IsTreeIn h now) m.2 made)) in
+              after_made h block request earlier old after new m.0 tree changed m.1 m.2 keeps
+              (subst (λ ns. AreNew h block ns m.0 versions) (sym (changes ∙ ap (changed_nodes tree) old_two)) news)
+
+          pub made_known : AreKnown h now new
+          made_known = record {
+            block = known.block;
+            requests = request ∷ known.requests;
+            after = made_after known.block known.requests known.after;
+            known = more_known h now old.trees new.trees request.label tree keeps.trees all_still made;
+          }

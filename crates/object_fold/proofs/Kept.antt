@@ -8,7 +8,7 @@ use Rattle.block_names.specs.Growth.{Holds}
 use Rattle.cow_tree.specs.Laws.{Keeps}
 use Rattle.cow_tree.specs.Versions.{IsTreeIn}
 use Rattle.cow_tree.specs.Views.{TreeView}
-use Rattle.cow_tree.proofs.Standing.{stays, strings_stood_for}
+use Rattle.cow_tree.proofs.Standing.{stays}
 use Rattle.guarded_update.specs.declared.request.Request.{Request}
 use Rattle.object_model.specs.Trees.{version_strings}
 use Rattle.object_model.specs.Folds.{Made, Effect, Makes, Refuses, Repeats, effect, with_effect, made_by, versions_of, versions_after}
@@ -16,6 +16,7 @@ use Rattle.object_fold.specs.Executed.{AreAfter, AreKnown, strings_of_effect, st
 use Rattle.object_fold.specs.Shelves.{trees_in, trees_of, tree_of}
 use Rattle.object_fold.specs.Views.{ObjectsView}
 use Rattle.object_fold.proofs.ExecutedLemmas.{one_more}
+use Rattle.object_fold.proofs.HeldStrings.{held_strings}
 
 pub known_still : (h : List ℕ → List ℕ) (held now : Held) (objects : ObjectsView) → Keeps held now → AreKnown h held objects → AreKnown h now objects
 known_still h held now objects keeps k = record {
@@ -24,11 +25,6 @@ known_still h held now objects keeps k = record {
   after = k.after;
   known = λ label. All-weaker (IsTreeIn h held) (IsTreeIn h now) (λ tree is. stays h held now tree keeps is) (trees_in objects.trees label) (k.known label);
 }
-
--- a tree whose strings are held is one of its versions
-held_strings : (h : List ℕ → List ℕ) (held : Held) (block : ℕ) (content : List ℕ) (older : List (List ℕ)) → IsTreeIn h held (tree_of h block content older) → All (Holds h held) (version_strings h block content older)
-held_strings h held block content older is =
-    subst (All (Holds h held)) (sym (strings_stood_for h is.block (tree_of h block content older) is.bytes is.older is.stands) ∙ strings_stood_for h block (tree_of h block content older) content older refl) is.known
 
 pub made_held : (h : List ℕ → List ℕ) (held : Held) (block : ℕ) (request : Request) (earlier : List Request) (objects : ObjectsView)
     → AreAfter h block (request ∷ earlier) objects → AreKnown h held objects → All (Holds h held) (strings_named h block request earlier)

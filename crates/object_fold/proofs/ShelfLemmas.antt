@@ -14,6 +14,7 @@ use Rattle.std.specs.Map.{lookup}
 use lib.Dec.{eqb-zero-suc, eqb-suc-zero, eqb-suc-suc}
 use Rattle.cow_tree.specs.Views.{TreeView}
 use Rattle.object_fold.specs.Views.{ShelfView}
+use Rattle.object_fold.specs.Added.{added_by, added_of, added_at}
 use Rattle.object_fold.specs.Shelves.{tree_of, trees_of, tree_at, trees_in, later_at, last_tree, newest_in, HasOneLater}
 
 -- there are as many trees as versions
@@ -43,13 +44,25 @@ tree_there h block (content ∷ older) number =
     ∙ ap (λ n. cond (number == n) (Some (tree_of h block content older)) (slice_get (trees_of h block older) number)) (length-trees_of h block older)
     ∙ ap (cond (number == length older) (Some (tree_of h block content older))) (tree_there h block older number)
 
+length-added_of : (h : List ℕ → List ℕ) (block : ℕ) (versions : List (List ℕ)) → length (added_of h block versions) ≡ length versions
+length-added_of h block [] = refl
+length-added_of h block (content ∷ older) = omega (arith, length-append (added_of h block older) (added_by h block content older ∷ []), length-added_of h block older)
+
+-- the same of what versions added
+pub added_there : (h : List ℕ → List ℕ) (block : ℕ) (versions : List (List ℕ)) (number : ℕ) → slice_get (added_of h block versions) number ≡ added_at h block versions number
+added_there h block [] number = refl
+added_there h block (content ∷ older) number =
+    get_more (added_of h block older) (added_by h block content older) number
+    ∙ ap (λ n. cond (number == n) (Some (added_by h block content older)) (slice_get (added_of h block older) number)) (length-added_of h block older)
+    ∙ ap (cond (number == length older) (Some (added_by h block content older))) (added_there h block older number)
+
 -- what holds of each item holds of the one that is lent from a place
 pub lent_one : {X R : Type 0} (P : X → Type 0) (now : R → X) (found : Option R) (xs : List X) (k : ℕ) → elim found as (λ _. Option X) [ None ↦ None | Some r ↦ Some (now r) ] ≡ slice_get xs k → All P xs → IfSome found (λ r. P (now r))
 lent_one P now None xs k e all = tt
 lent_one P now (Some r) xs k e all = subst P (get_or_from_slice_get xs k (now r) (now r) (sym e)) (All-get_or P xs k (now r) (slice_get_within xs k (now r) (sym e)) all)
 
 -- labels are compared by their bytes
-label_test : (a b : List ℕ) → bytes_eq a b ≡ is_at (slice_cmp nat_cmp a) b
+pub label_test : (a b : List ℕ) → bytes_eq a b ≡ is_at (slice_cmp nat_cmp a) b
 label_test a b = lists_ties nat_cmp unsigned_ties a b
 
 put_there : (same : Bool) (old : List (List ℕ × List TreeView)) (label other : List ℕ) (tree : TreeView) (trees : List TreeView) → (same ≡ true → label ≡ other) → trees ≡ later_at old label ++ tree ∷ []

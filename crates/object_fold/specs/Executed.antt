@@ -1,12 +1,12 @@
 -- The objects after executed requests. Lists of requests, and of the versions that they make, have the newest first. Throughout, h
 -- names byte strings, and block is how many bytes a whole leaf has.
-use Rattle.std.specs.Prelude.{◌≡◌, ◌==◌, ◌&&◌, ◌||◌, ℕ, Bool, List, [], ◌∷◌, ◌++◌, length, All}
+use Rattle.std.specs.Prelude.{◌≡◌, ◌==◌, ◌&&◌, ◌||◌, ℕ, Bool, List, [], ◌∷◌, ◌++◌, length, map, All}
 use Rattle.std.specs.List.{list_any}
 use Rattle.pond_base.specs.declared.numbers.ClientId.{ClientId}
 use Rattle.pond_base.specs.declared.numbers.Version.{Version}
 use Rattle.block_names.specs.Held.{Held}
 use Rattle.guarded_update.specs.declared.request.Request.{Request}
-use Rattle.object_model.specs.Trees.{version_name, version_strings}
+use Rattle.object_model.specs.Trees.{version_name, version_strings, strings_so_far}
 use Rattle.object_model.specs.Updates.{newest, NoClause, OutOfRange, TooLong}
 use Rattle.object_model.specs.Folds.{Made, Effect, Makes, Refuses, Repeats, effect, made_by, same_number, versions_of, versions_after}
 use Rattle.ring_message.specs.declared.outcome.Outcome.{Outcome}
@@ -15,7 +15,8 @@ use Rattle.cow_tree.specs.Versions.{IsTreeIn}
 use Rattle.cow_tree.specs.Namings.{most_namings}
 use Rattle.object_fold.specs.Views.{ObjectsView}
 use Rattle.object_fold.specs.Shelves.{trees_of, trees_in, HasOneMore}
-use Rattle.cow_tree.specs.Views.{TreeView}
+use Rattle.object_fold.specs.Added.{added_in, added_of, strings_at, AddsUnder, HasJust}
+use Rattle.cow_tree.specs.Views.{NodeView, TreeView}
 
 -- a request's client and number are among these
 abbrev pub is_seen : List (ClientId × ℕ) → Request → Bool
@@ -26,9 +27,12 @@ abbrev pub in_order : List Made → List (List ℕ × Version)
 in_order [] = []
 in_order (m ∷ made) = in_order made ++ (m.label, record { 0 = length (versions_of m.label made) }) ∷ []
 
--- the objects are those after these requests: for each label the trees of its versions, whose request was executed, and what was made
+-- the objects are those after these requests: for each label the trees of its versions, the strings that each of them added and the
+-- names of all of them; whose request was executed; and what was made
 pub record AreAfter (h : List ℕ → List ℕ) (block : ℕ) (requests : List Request) (objects : ObjectsView) : Type 0 where
   pub trees : (label : List ℕ) → trees_in objects.trees label ≡ trees_of h block (versions_after h block label requests)
+  pub added : (label : List ℕ) → added_in objects.added label ≡ added_of h block (versions_after h block label requests)
+  pub names : (label : List ℕ) → HasJust (strings_at objects.added label).names (map h (strings_so_far h block (versions_after h block label requests)))
   pub seen : (request : Request) → is_seen objects.seen request ≡ list_any (same_number request) requests
   pub made : objects.made ≡ in_order (made_by h block requests)
 
@@ -43,9 +47,10 @@ pub record AreKnown (h : List ℕ → List ℕ) (held : Held) (objects : Objects
 abbrev pub SeesOneMore : List (ClientId × ℕ) → List (ClientId × ℕ) → Request → Type 0
 SeesOneMore old new request = (other : Request) → is_seen new other ≡ (same_number other request || is_seen old other)
 
--- the tree of the version that a request made is kept
-pub record KeepsTree (old new : ObjectsView) (request : Request) (tree : TreeView) : Type 0 where
+-- the tree of the version that a request made is kept, with what is new of some changed nodes
+pub record KeepsTree (old new : ObjectsView) (request : Request) (tree : TreeView) (changed : List NodeView) : Type 0 where
   pub trees : HasOneMore old.trees new.trees request.label tree
+  pub added : AddsUnder old.added new.added request.label changed
   pub seen : SeesOneMore old.seen new.seen request
   pub made : new.made ≡ old.made ++ (request.label, tree.root.version) ∷ []
 

@@ -1,3 +1,4 @@
+pub mod Added
 pub mod Choice
 pub mod Executed
 pub mod Laws

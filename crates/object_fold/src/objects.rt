@@ -7,15 +7,17 @@ ghost use Rattle.object_model.specs.Trees.{version_strings};
 ghost use Rattle.object_model.specs.Folds.{Refuses, made_by, versions_after};
 ghost use Rattle.cow_tree.specs.Versions.{IsTreeIn};
 ghost use Rattle.object_fold.specs.Shelves.{tree_at};
+ghost use Rattle.object_fold.specs.Added.{added_at};
 ghost use Rattle.object_fold.specs.Choice.{refusal_of};
 ghost use Rattle.object_fold.specs.Executed.{AreAfter, AreKnown, ForAfter, KeepsTree, in_order, outcome_of, outcome_after, strings_named, most_named};
 
+use crate::added::Added;
 use crate::decision::decide;
 use crate::fate::Refused;
 use crate::seen::Seen;
 use crate::shelf::Shelf;
 use block_names::{Book, Hash160, NameFault};
-use cow_tree::Tree;
+use cow_tree::{Node, Tree};
 use guarded_update::Request;
 use pond_base::{Items, Label, OutOfMemory, Version};
 use ring_message::Outcome;
@@ -27,6 +29,7 @@ use std::marker::Model;
 #[derive(Drop)]
 pub struct Objects {
     trees: Shelf,
+    added: Added,
     seen: Seen,
     made: Items<(Label, Version)>,
 }
@@ -36,7 +39,7 @@ impl Model for Objects {
 
     ghost Value = { ObjectsView };
 
-    ghost view = { λ objects. record { trees = objects.trees; seen = objects.seen; made = objects.made } };
+    ghost view = { λ objects. record { trees = objects.trees; added = objects.added; seen = objects.seen; made = objects.made } };
 }
 
 impl Objects {
@@ -57,8 +60,10 @@ impl Objects {
         ensures fault { IfErr result (IsClashIn H.naming book.new.held (Contains (version_strings H.naming block [] []))) }
     {
         let first = Tree::first(alloc, book, block)?;
+        let strings = first.changed_nodes(&first)?;
         Ok(Objects {
             trees: Shelf::new(alloc, first),
+            added: Added::new(alloc, strings),
             seen: Seen::new(alloc),
             made: Items::new(alloc),
         })
@@ -101,11 +106,12 @@ impl Objects {
             Ok(tree) => tree,
             Err(fault) => return Err(fault),
         };
+        let changed = tree.changed_nodes(newest)?;
         let outcome = Outcome::Made {
             version: tree.root().version,
             name: tree.name(),
         };
-        self.keep(request, tree)?;
+        self.keep(request, tree, changed.as_slice())?;
         Ok(outcome)
     }
 
@@ -133,12 +139,22 @@ impl Objects {
         self.made.as_slice()
     }
 
-    // KeepsTree the version that a request made.
-    fn keep(&mut self, request: &Request, tree: Tree) -> Result<(), OutOfMemory>
-        ensures { OnOk result (KeepsTree self.old self.new request.now tree) }
+    /// The strings that the version of an object of a number added: those that stand in it and in no
+    /// lower one, under their names, once each and in the order of the tree; `None` exactly where the
+    /// object has no such version. Takes no memory.
+    pub fn added(&self, label: &Label, version: Version) -> Option<&[Node]>
+        ensures { (h : List ℕ → List ℕ) → ForAfter h self.now (λ block requests. option_copied result ≡ added_at h block (versions_after h block label.now requests) version.0) }
+    {
+        self.added.at(label, version)
+    }
+
+    // Keeps the version that a request made, and of some nodes those that are new.
+    fn keep(&mut self, request: &Request, tree: Tree, changed: &[Node]) -> Result<(), OutOfMemory>
+        ensures { OnOk result (KeepsTree self.old self.new request.now tree changed.now) }
     {
         let version = tree.root().version;
         self.trees.add(&request.label, tree)?;
+        self.added.add(&request.label, changed)?;
         self.made.push((request.label, version))?;
         self.seen.add(request)?;
         Ok(())

@@ -1,5 +1,4 @@
 mod Believed
-mod Fresh
 mod LabelBytes
 mod Versions
 mod Slots

@@ -1,4 +1,3 @@
 pub mod Clients
 pub mod Deliveries
 pub mod Executed
-pub mod Sets

@@ -6,8 +6,13 @@ use Rattle.object_model.specs.Folds.{versions_after}
 use Rattle.ring_message.specs.declared.outcome.Outcome.TheVariants as told
 use Rattle.object_fold.specs.Choice.{refusal_of}
 use Rattle.object_fold.specs.Executed.{strings_of_effect, outcome_of}
-use Rattle.object_fold.proofs.Execution.{refused_effect, refused_after, refused_known, tree_known, has_room, edits_known, next_strings, next_counted, made_outcome, made_after, made_known}
+use Rattle.object_fold.proofs.Execution.{again_after, refused_effect, refused_after, refused_known, tree_known, has_room, edits_known, next_strings, next_counted, made_outcome, made_after, made_known}
 use Rattle.object_fold.proofs.objects.Objects.execute.Goals as goal
+
+-- ---- a request that was executed before
+
+pub returns-then-has-clause-after : goal.returns-then-has-clause-after
+returns-then-has-clause-after g c = again_after g.H.Hash160.naming c.args.self.now _ c.self.view_is c.args.request.now c.if-has.ensures
 
 -- ---- a refusal
 
@@ -24,13 +29,13 @@ pub returns-in-Err-clause-after : goal.returns-in-Err-clause-after
 returns-in-Err-clause-after g c =
     let h = g.H.Hash160.naming in
     refused_after h c.args.self.now _ c.self.view_is c.args.request.now c.as_slice-clauses.result.now c.as_slice-clauses.ensures c.newest.result.now c.newest.result.now c.newest.ensures c.newest.ensures c.if-has.ensures
-    (refusal_of c.in-Err.refused) (λ b content older stands. c.in-Err.ensures h b content older stands) _ refl refl c.in_ok-add-in-Err.ensures
+    (refusal_of c.in-Err.refused) (λ b content older stands. c.in-Err.ensures h b content older stands) _ refl refl refl c.in_ok-add-in-Err.ensures
 
 pub returns-in-Err-clause-known : goal.returns-in-Err-clause-known
 returns-in-Err-clause-known g c =
     let h = g.H.Hash160.naming in
     refused_known h c.args.self.now _ c.self.view_is c.args.request.now c.as_slice-clauses.result.now c.as_slice-clauses.ensures c.newest.result.now c.newest.result.now c.newest.ensures c.newest.ensures c.if-has.ensures
-    (refusal_of c.in-Err.refused) (λ b content older stands. c.in-Err.ensures h b content older stands) c.args.book.now.held _ refl refl c.in_ok-add-in-Err.ensures c.requires.known
+    (refusal_of c.in-Err.refused) (λ b content older stands. c.in-Err.ensures h b content older stands) c.args.book.now.held _ refl refl refl c.in_ok-add-in-Err.ensures c.requires.known
 
 pub returns-in-Err-clause-held : goal.returns-in-Err-clause-held
 returns-in-Err-clause-held g c = λ block earlier after.
@@ -97,6 +102,19 @@ returns-in_err-keep-clause-counted g c =
     next_counted h c.args.self.now _ c.self.view_is c.args.request.now c.as_slice-clauses.result.now c.as_slice-clauses.ensures c.newest.result.now c.newest-newest.result.now c.newest.ensures c.newest-newest.ensures c.if-has.ensures
     c.in-Ok.actions.now (λ b content older stands. c.in-Ok.ensures h b content older stands) c.args.book.now.namings c.apply.new.book.namings c.apply.ensures.counted
 
+pub returns-in_err-changed-clause-grew : goal.returns-in_err-changed-clause-grew
+returns-in_err-changed-clause-grew g c =
+    let h = g.H.Hash160.naming in
+    next_strings h c.args.self.now _ c.self.view_is c.args.request.now c.as_slice-clauses.result.now c.as_slice-clauses.ensures c.newest.result.now c.newest-newest.result.now c.newest.ensures c.newest-newest.ensures c.if-has.ensures
+    c.in-Ok.actions.now (λ b content older stands. c.in-Ok.ensures h b content older stands)
+    (λ strings. Grew h c.args.book.now.held (Contains strings) c.apply.new.book.held) c.apply.ensures.grew
+
+pub returns-in_err-changed-clause-counted : goal.returns-in_err-changed-clause-counted
+returns-in_err-changed-clause-counted g c =
+    let h = g.H.Hash160.naming in
+    next_counted h c.args.self.now _ c.self.view_is c.args.request.now c.as_slice-clauses.result.now c.as_slice-clauses.ensures c.newest.result.now c.newest-newest.result.now c.newest.ensures c.newest-newest.ensures c.if-has.ensures
+    c.in-Ok.actions.now (λ b content older stands. c.in-Ok.ensures h b content older stands) c.args.book.now.namings c.apply.new.book.namings c.apply.ensures.counted
+
 -- ---- a version
 
 pub returns-clause-outcome : goal.returns-clause-outcome
@@ -111,13 +129,15 @@ pub returns-clause-after : goal.returns-clause-after
 returns-clause-after g c =
     let h = g.H.Hash160.naming in
     made_after h c.args.self.now _ c.self.view_is c.args.request.now c.as_slice-clauses.result.now c.as_slice-clauses.ensures c.newest.result.now c.newest-newest.result.now c.newest.ensures c.newest-newest.ensures c.if-has.ensures
-    c.in-Ok.actions.now (λ b content older stands. c.in-Ok.ensures h b content older stands) c.in-Ok-apply.tree c.in-Ok-apply.ensures.stands c.keep.new.self c.in_ok-keep.ensures
+    c.in-Ok.actions.now (λ b content older stands. c.in-Ok.ensures h b content older stands) c.in-Ok-apply.tree c.in-Ok-apply.ensures.stands c.args.book.now.held c.apply.new.book.held c.keep.new.self c.as_slice.result.now
+    c.requires.known c.in_ok-keep.ensures (c.as_slice.ensures ∙ c.in_ok-changed.ensures) c.in-Ok-apply.ensures.tree c.apply.ensures.grew
 
 pub returns-clause-known : goal.returns-clause-known
 returns-clause-known g c =
     let h = g.H.Hash160.naming in
     made_known h c.args.self.now _ c.self.view_is c.args.request.now c.as_slice-clauses.result.now c.as_slice-clauses.ensures c.newest.result.now c.newest-newest.result.now c.newest.ensures c.newest-newest.ensures c.if-has.ensures
-    c.in-Ok.actions.now (λ b content older stands. c.in-Ok.ensures h b content older stands) c.in-Ok-apply.tree c.in-Ok-apply.ensures.stands c.args.book.now.held c.apply.new.book.held c.keep.new.self c.in_ok-keep.ensures c.in-Ok-apply.ensures.tree c.apply.ensures.grew c.requires.known
+    c.in-Ok.actions.now (λ b content older stands. c.in-Ok.ensures h b content older stands) c.in-Ok-apply.tree c.in-Ok-apply.ensures.stands c.args.book.now.held c.apply.new.book.held c.keep.new.self c.as_slice.result.now
+    c.requires.known c.in_ok-keep.ensures (c.as_slice.ensures ∙ c.in_ok-changed.ensures) c.in-Ok-apply.ensures.tree c.apply.ensures.grew
 
 pub returns-clause-held : goal.returns-clause-held
 returns-clause-held g c =

@@ -1,0 +1,6 @@
+use Rattle.std.proofs.Common.{◌≡◌, ◌++◌, take}
+use Rattle.cow_tree.specs.Changed.{changed_in_row}
+use Rattle.cow_tree.proofs.changed.add_changed_nodes.Given as goal
+
+abbrev pub invariant-loop-place : goal.invariant-loop-place
+invariant-loop-place l = l.changed ≡ l.fn.changed ++ changed_in_row (take l.place l.nodes) l.before
