@@ -2,6 +2,7 @@
 
 ghost use Rattle.std.specs.Prelude.{◌≡◌, ℕ, Bool, true, false, ◌+◌, ◌*◌, ◌<◌, ◌≤◌, List, length, slice_index, IfOk, map, ◌↔◌, IfSome, IsSome};
 ghost use Rattle.std.specs.List.{range_with_len};
+ghost use Rattle.gf_lanes.specs.ProductRows.{Serves};
 ghost use Rattle.cauchy_code.specs.Code.{Parameters, is_part, cauchy_row, row, part_length, Indexes, AllLong, AreRows, Bytes as AreBytes};
 ghost use Rattle.cauchy_code.specs.Systematic.{table_of};
 ghost use Rattle.cauchy_code.specs.Table.{given_part};
@@ -9,9 +10,9 @@ ghost use Rattle.cauchy_code.specs.Table.{given_part};
 use crate::combine::{Four, apply, combine, combine_four, part};
 use crate::mixed::mixed;
 use crate::order::{given, indexes, joined, others};
+use crate::products::products_for;
 use crate::table::row_factors;
 use bytes::Bytes;
-use gf_lanes::ProductTable;
 use pond_base::OutOfMemory;
 use std::alloc::Global;
 use std::marker::Model;
@@ -154,12 +155,13 @@ impl Code {
     fn four_rows(
         &self,
         alloc: Global,
-        products: &ProductTable,
+        products: &[u8],
         index: u8,
         points: &[u8],
         parts: &[u8],
         part_len: usize,
     ) -> Result<Four, OutOfMemory>
+        requires products { Serves products.now part_len }
         requires there { index + 4 ≤ self.now.n }
         requires points { points.now ≡ range_with_len self.now.n self.now.m }
         requires whole { self.now.m * part_len ≤ length parts.now }
@@ -185,7 +187,7 @@ impl Code {
         let m = self.m();
         let n = self.n();
         let len = self.part_len(block.len());
-        let products = ProductTable::new(alloc)?;
+        let products = products_for(alloc, len)?;
         let points = numbers(alloc, n, m)?;
         let parts = padded(alloc, block, m as usize * len)?;
         let mut rows = Vec::with_capacity(alloc, n as usize)?;
@@ -224,11 +226,12 @@ impl Code {
     pub(crate) fn rebuild_with(
         &self,
         alloc: Global,
-        products: &ProductTable,
+        products: &[u8],
         size: usize,
         parts: &[(u8, Bytes)],
         table: &[Vec<u8>],
     ) -> Result<Vec<u8>, OutOfMemory>
+        requires products { Serves products.now (part_length self.now.m size) }
         requires many { length parts.now ≡ self.now.m }
         requires indexes { Indexes self.now.n (map (λ p. p.0) parts.now) }
         requires long { AllLong (part_length self.now.m size) (map (λ p. p.1) parts.now) }
@@ -259,7 +262,7 @@ impl Code {
     {
         let xs = indexes(alloc, parts)?;
         let table = self.table(alloc, &xs)?;
-        let products = ProductTable::new(alloc)?;
+        let products = products_for(alloc, self.part_len(size))?;
         self.rebuild_with(alloc, &products, size, parts, &table)
     }
 }

@@ -3,10 +3,11 @@
 ghost use Rattle.std.specs.Prelude.{◌≡◌, ℕ, ◌+◌, ◌*◌, ◌<◌, ◌≤◌, ◌^◌, length, slice_index, EachIndex, bit_xor, IfOk, IsTrue, map};
 ghost use Rattle.std.specs.List.{range_with_len};
 ghost use Rattle.gf256.specs.Field.{product};
+ghost use Rattle.gf_lanes.specs.ProductRows.{Serves};
 ghost use Rattle.cauchy_code.specs.Code.{dot, column};
 ghost use Rattle.cauchy_code.specs.Table.{IsWide, given_part, given_parts};
 
-use gf_lanes::{ProductTable, add_row, sum_four};
+use gf_lanes::{add_row, sum_four};
 use pond_base::OutOfMemory;
 use std::alloc::Global;
 
@@ -64,7 +65,7 @@ pub struct Four {
 /// Four sums of the parts, as `combine` makes one. No part may end early here.
 pub fn combine_four(
     alloc: Global,
-    products: &ProductTable,
+    products: &[u8],
     first: &[u8],
     second: &[u8],
     third: &[u8],
@@ -72,6 +73,7 @@ pub fn combine_four(
     bytes: &[u8],
     part_len: usize,
 ) -> Result<Four, OutOfMemory>
+    requires products { Serves products.now part_len }
     requires many_second { length second.now ≡ length first.now }
     requires many_third { length third.now ≡ length first.now }
     requires many_fourth { length fourth.now ≡ length first.now }
@@ -114,11 +116,12 @@ fn are_four_sums(table: &[Vec<u8>], from: usize) -> bool
 /// are sums of many rows.
 pub fn apply(
     alloc: Global,
-    products: &ProductTable,
+    products: &[u8],
     table: &[Vec<u8>],
     rows: &[u8],
     part_len: usize,
 ) -> Result<Vec<u8>, OutOfMemory>
+    requires products { Serves products.now part_len }
     requires square { IsWide (length table.now) (map (λ w. w.items) table.now) }
     requires fits { length table.now * part_len < 2 ^ 64 }
     requires whole { length table.now * part_len ≤ length rows.now }

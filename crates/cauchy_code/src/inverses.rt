@@ -1,14 +1,15 @@
 //! Tables that are kept from one block to the next.
 
 ghost use Rattle.std.specs.Prelude.{◌≡◌, ℕ, ◌==◌, if◌then◌else◌, ◌<◌, ◌≤◌, List, [], ◌∷◌, ◌++◌, length, IfOk, OnOk, OnErr, IfSome, IsSome, IsNone, All, Contains, map, vec_len};
+ghost use Rattle.gf_lanes.specs.ProductRows.{AreProducts};
 ghost use Rattle.cauchy_code.specs.Code.{part_length, Indexes, AllLong, AreRows, Bytes as AreBytes};
 ghost use Rattle.cauchy_code.specs.Systematic.{table_of};
 ghost use Rattle.cauchy_code.specs.Kept.{Kept, staying};
 
 use crate::Code;
 use crate::order::indexes;
+use crate::products::serve;
 use bytes::Bytes;
-use gf_lanes::ProductTable;
 use pond_base::OutOfMemory;
 use std::alloc::Global;
 use std::marker::Model;
@@ -29,7 +30,8 @@ pub struct Inverses {
     alloc: Global,
     code: Code,
     size: u32,
-    products: ProductTable,
+    // The table of products, and no bytes before parts came that need it.
+    products: Vec<u8>,
     entries: Vec<Entry>,
 }
 
@@ -39,7 +41,7 @@ impl Model for Inverses {
 
     ghost view = { λ i. record { code = i.code; size = i.size; lists = map (λ e. e.xs.items) i.entries.items } };
 
-    ghost invariant = { λ i. (1 ≤ i.size) × (vec_len i.entries ≤ i.size) × All (λ e. e.code ≡ i.code) i.entries.items };
+    ghost invariant = { λ i. (1 ≤ i.size) × (vec_len i.entries ≤ i.size) × (0 < vec_len i.products → AreProducts i.products.items) × All (λ e. e.code ≡ i.code) i.entries.items };
 }
 
 /// The table that is kept for the rows `xs`.
@@ -87,7 +89,7 @@ impl Inverses {
             alloc,
             code: *code,
             size,
-            products: ProductTable::new(alloc)?,
+            products: Vec::new(alloc),
             entries: Vec::new(alloc),
         })
     }
@@ -119,6 +121,7 @@ impl Inverses {
     {
         let code = self.code;
         let alloc = self.alloc;
+        serve(alloc, &mut self.products, code.part_len(size))?;
         let xs = indexes(alloc, parts)?;
         if let Some(table) = find(&self.entries, &code, &xs) {
             return code.rebuild_with(alloc, &self.products, size, parts, table);

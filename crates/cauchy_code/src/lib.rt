@@ -13,6 +13,7 @@ mod combine;
 mod inverses;
 mod mixed;
 mod order;
+mod products;
 mod table;
 
 pub use code::Code;

@@ -8,6 +8,7 @@
 
 ghost use Rattle.std.specs.Prelude.{◌≡◌, ◌≢◌, ◌<◌};
 ghost use Rattle.gf256.specs.Field.{product, inverse, power};
+ghost use Rattle.gf256.specs.Laws.{BytesAreField};
 
 /// The powers of 2 from exponent 0 on. They repeat after 255, and stand here twice, so that the sum
 /// of two exponents needs no remainder.
@@ -111,3 +112,8 @@ pub fn div(a: u8, b: u8) -> u8
     let j = exponent(b);
     power(i + 255 - j)
 }
+
+/// The bytes with the sum `^` and the product are a field, where each byte but 0 has one inverse.
+pub fn bytes_are_a_field()
+    ensures { BytesAreField }
+{}

@@ -1,9 +1,9 @@
 -- Rows of a table of products.
-use Rattle.std.proofs.Common.{◌≡◌, ℕ, zero, suc, ◌+◌, ◌-◌, ◌*◌, ◌/◌, ◌%◌, ◌^◌, ◌<◌, ◌≤◌, List, replicate, get_or, refl, sym, ap, subst, ◌∙◌, arith, bit_xor, inl, inr}
+use Rattle.std.proofs.Common.{◌≡◌, ℕ, zero, suc, ◌+◌, ◌-◌, ◌*◌, ◌/◌, ◌%◌, ◌^◌, ◌<◌, ◌≤◌, List, get_or, refl, sym, ap, subst, ◌∙◌, arith, bit_xor, inl, inr}
 use Rattle.std.proofs.lemmas.Bool.{cases_lt, lt-ltb, le-ltb}
 use Rattle.std.specs.Int.Bits.{xor_shifted}
 use Rattle.gf256.specs.Field.{product}
-use Rattle.gf256.proofs.Laws.{product_sum_l, product_zero_l}
+use Rattle.gf256.proofs.Laws.{product_sum_l}
 use Rattle.gf_lanes.specs.ProductRows.{number, IsRow, AreRows, AreProducts}
 use Rattle.gf_lanes.proofs.Products.{times_sixteen_is}
 
@@ -67,16 +67,3 @@ row_of_sum now old a b bit power below ra rb both = λ k l.
     let one : 1 * 2 ^ bit ≡ a = omega arith in
     let whole : bit_xor a b ≡ a + b = (λ i. bit_xor (sym one i) b) ∙ xor_shifted 1 bit b below ∙ ap (λ x. x + b) one in
     both k l ∙ (λ i. bit_xor (ra k l i) (rb k l i)) ∙ sym (product_sum_l a b (number k)) ∙ ap (λ x. product x (number k)) whole
-
-zero_at : (n k : ℕ) → get_or {A = ℕ} (replicate n 0) k 0 ≡ 0
-zero_at zero k = refl
-zero_at (suc n) zero = refl
-zero_at (suc n) (suc k) = zero_at n k
-
-pub zeros_at : (bytes : List ℕ) (n : ℕ) → bytes ≡ replicate {A = ℕ} n 0 → (k : ℕ) → get_or bytes k 0 ≡ 0
-zeros_at bytes n is k = ap (λ xs. get_or xs k 0) is ∙ zero_at n k
-
--- row 0 is zeros
-pub row_zero : (bytes : List ℕ) → ((k : ℕ) → get_or bytes k 0 ≡ 0) → AreRows bytes 1
-row_zero bytes zeros = λ c lc k lk.
-    zeros (32 * c + k) ∙ sym (product_zero_l (number k)) ∙ ap (λ x. product x (number k)) (let e : 0 ≡ c = omega arith in e)

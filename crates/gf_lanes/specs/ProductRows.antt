@@ -1,5 +1,5 @@
 -- Tables of products.
-use Rattle.std.specs.Prelude.{◌≡◌, ℕ, ◌<◌, ◌+◌, ◌-◌, ◌*◌, nat_lt, if◌then◌else◌, List, length, slice_index}
+use Rattle.std.specs.Prelude.{◌≡◌, ℕ, ◌<◌, ◌≤◌, ◌+◌, ◌-◌, ◌*◌, nat_lt, if◌then◌else◌, List, length, slice_index}
 use Rattle.gf256.specs.Field.{product}
 
 -- the number that place k of a row of the table is for: a byte below 16, and from place 16 on sixteen times one
@@ -18,3 +18,7 @@ AreRows bytes n = (c : ℕ) → c < n → IsRow bytes c
 pub record AreProducts (bytes : List ℕ) : Type 0 where
   pub long : length bytes ≡ 8192
   pub rows : AreRows bytes 256
+
+-- a table of products, where rows of p bytes are long enough to be summed by one
+abbrev pub Serves : List ℕ → ℕ → Type 0
+Serves bytes p = 32 ≤ p → AreProducts bytes

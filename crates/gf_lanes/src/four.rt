@@ -3,10 +3,9 @@
 
 ghost use Rattle.std.specs.Prelude.{◌≡◌, ℕ, ◌+◌, ◌*◌, ◌<◌, ◌≤◌, length, slice_index, EachIndex};
 ghost use Rattle.gf_lanes.specs.Lanes.{HasLanes};
-ghost use Rattle.gf_lanes.specs.ProductRows.{AreProducts};
+ghost use Rattle.gf_lanes.specs.ProductRows.{AreProducts, Serves};
 ghost use Rattle.gf_lanes.specs.Sums.{sum_to, part_sum};
 
-use crate::ProductTable;
 use crate::lanes::{LANES, load, store, sum, times, zeros};
 use gf256::mul;
 use std::simd::prelude::*;
@@ -73,9 +72,10 @@ fn sum_at(factors: &[u8], parts: &[u8], part_len: usize, j: usize) -> u8
 }
 
 /// Makes four rows: each is the sum of the parts, each part times the row's factor for it. The parts
-/// stand one after another, and are as long as the rows. What the rows held before is lost.
+/// stand one after another, and are as long as the rows. What the rows held before is lost. Only rows of
+/// 32 bytes or more need the table of products.
 pub fn sum_four(
-    table: &ProductTable,
+    table: &[u8],
     first_factors: &[u8],
     second_factors: &[u8],
     third_factors: &[u8],
@@ -86,6 +86,7 @@ pub fn sum_four(
     third: &mut [u8],
     fourth: &mut [u8],
 )
+    requires table { Serves table.now (length first.old) }
     requires many_second { length second_factors.now ≡ length first_factors.now }
     requires many_third { length third_factors.now ≡ length first_factors.now }
     requires many_fourth { length fourth_factors.now ≡ length first_factors.now }
@@ -98,7 +99,6 @@ pub fn sum_four(
     ensures third { EachIndex third.new (λ j. slice_index third.new j ≡ part_sum third_factors.now parts.now (length first.old) j) }
     ensures fourth { EachIndex fourth.new (λ j. slice_index fourth.new j ≡ part_sum fourth_factors.now parts.now (length first.old) j) }
 {
-    let table = table.bytes();
     let part_len = first.len();
     let blocks = part_len / LANES;
     for block in 0..blocks {

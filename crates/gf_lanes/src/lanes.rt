@@ -8,8 +8,8 @@ ghost use Rattle.gf_lanes.specs.ProductRows.{AreProducts};
 
 use std::simd::prelude::*;
 
-/// The bytes that are summed at once.
-pub(crate) const LANES: usize = 32;
+/// How many bytes are summed at once. Sums of shorter rows look nothing up in a table of products.
+pub const LANES: usize = 32;
 
 /// 255 at each lane whose number has bit 0, and 0 at the others.
 const BIT_0: [u8; 32] = [

@@ -3,7 +3,7 @@
 //!
 //! This layer stands on the field's product. `add_row_plain` is the definition's plain program, a
 //! product a byte; `add_row` has the same contract and sums 32 bytes at a time by lanes. The code
-//! above rests on that one clause, which says each place of the sum.
+//! above rests on that one clause, which says each place of the sum. No call here takes memory.
 #![tactic(auto)]
 
 ghost use Rattle.std.specs.Prelude.{◌≡◌, length, slice_index, EachIndex, bit_xor};
@@ -15,8 +15,9 @@ mod product_table;
 
 pub use four::sum_four;
 use gf256::mul;
-use lanes::{LANES, add_block, products, times_sixteen};
-pub use product_table::ProductTable;
+pub use lanes::LANES;
+use lanes::{add_block, products, times_sixteen};
+pub use product_table::{TABLE_BYTES, fill_products};
 
 /// Adds `c` times `row` to `acc`, place by place: each byte of `acc` becomes its sum with the product
 /// of `c` and the byte of `row` at its place.

@@ -1,26 +1,14 @@
-//! Products that are made once and then looked up.
+//! Products that are made once and then looked up. The bytes are the caller's, so that nothing here takes
+//! memory.
 
-ghost use Rattle.std.specs.Prelude.{◌≡◌, ℕ, ◌+◌, ◌*◌, ◌^◌, ◌<◌, ◌≤◌, List, length, slice_index, bit_xor, IfOk};
+ghost use Rattle.std.specs.Prelude.{◌≡◌, ℕ, ◌+◌, ◌*◌, ◌^◌, ◌<◌, ◌≤◌, length, slice_index, bit_xor};
 ghost use Rattle.gf_lanes.specs.ProductRows.{IsRow, AreRows, AreProducts};
 
 use crate::lanes::{load, products, store, store_half, sum, times_sixteen};
-use std::alloc::{AllocError, Global};
-use std::marker::Model;
 
-/// The products of each byte and the bytes below 16, and of each byte and 16 times these.
-#[derive(Drop)]
-pub struct ProductTable {
-    bytes: Vec<u8>,
-}
-
-// Contracts see the bytes of the table.
-impl Model for ProductTable {
-    ghost Value = { List ℕ };
-
-    ghost view = { λ products. products.bytes.items };
-
-    ghost invariant = { λ products. AreProducts products.bytes.items };
-}
+/// How many bytes a table of products has: for each byte its products with the bytes below 16, and with 16
+/// times these.
+pub const TABLE_BYTES: usize = 8192;
 
 /// Writes row `c`.
 fn put_row(bytes: &mut [u8], c: u8)
@@ -58,32 +46,13 @@ fn double_rows(bytes: &mut [u8], bit: u32)
     }
 }
 
-/// Writes all rows.
-fn fill(bytes: &mut [u8])
-    requires long { length bytes.old ≡ 8192 }
-    requires zero { AreRows bytes.old 1 }
+/// Makes the bytes the table of products. What they held before is lost. Takes no memory.
+pub fn fill_products(bytes: &mut [u8])
+    requires { length bytes.old ≡ 8192 }
     ensures { AreProducts bytes.new }
 {
+    put_row(bytes, 0);
     for bit in 0..8u32 {
         double_rows(bytes, bit);
-    }
-}
-
-impl ProductTable {
-    /// The table, of 8,192 bytes.
-    pub fn new(alloc: Global) -> Result<Self, AllocError>
-        ensures { IfOk result (λ table. AreProducts table) }
-    {
-        let mut bytes = vec![in alloc; 0; 8192]?;
-        fill(&mut bytes);
-        Ok(ProductTable { bytes })
-    }
-
-    /// The bytes of the table.
-    pub(crate) fn bytes(&self) -> &[u8]
-        ensures value { result.now ≡ self.now }
-        ensures products { AreProducts result.now }
-    {
-        &self.bytes
     }
 }

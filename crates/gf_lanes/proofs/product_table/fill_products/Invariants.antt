@@ -1,6 +1,6 @@
 use Rattle.std.proofs.Common.{◌≡◌, ◌^◌, ℕ, List, length}
 use Rattle.gf_lanes.specs.ProductRows.{AreRows}
-use Rattle.gf_lanes.proofs.product_table.fill.Given as goal
+use Rattle.gf_lanes.proofs.product_table.fill_products.Given as goal
 
 pub record State (bytes : List ℕ) (bit : ℕ) : Type 0 where
   pub long : length bytes ≡ 8192
