@@ -83,10 +83,10 @@ fn rebuild_kept_again(
     Ok(())
 }
 
-/// Megabytes in a second, where `size` bytes were done in each time of a round.
-fn megabytes(start: &Instant, rt: &impl Runtime, size: usize) -> io::Result<u64> {
+/// Kilobytes in a second, where `size` bytes were done in each time of a round.
+fn kilobytes(start: &Instant, rt: &impl Runtime, size: usize) -> io::Result<u64> {
     let nanos = u64::try_from(start.elapsed(rt)?.as_nanos()).unwrap_or(u64::MAX);
-    Ok((size as u64).saturating_mul(1000 * TIMES as u64) / nanos.max(1))
+    Ok((size as u64).saturating_mul(1_000_000 * TIMES as u64) / nanos.max(1))
 }
 
 /// A row of its own.
@@ -113,13 +113,13 @@ fn add_rows(rt: &impl Runtime, acc: &mut [u8], row: &[u8]) -> io::Result<()>
     for _ in 0..ROUNDS {
         let start = Instant::now(rt)?;
         add_again(acc, row);
-        lanes = megabytes(&start, rt, row.len())?.max(lanes);
+        lanes = kilobytes(&start, rt, row.len())?.max(lanes);
         let start = Instant::now(rt)?;
         add_plain_again(acc, row);
-        plain = megabytes(&start, rt, row.len())?.max(plain);
+        plain = kilobytes(&start, rt, row.len())?.max(plain);
     }
     println!(rt;
-        "MB/s of rows of {} bytes: lanes {lanes}, plain {plain}",
+        "kB/s of rows of {} bytes: lanes {lanes}, plain {plain}",
         row.len()
     )
 }
@@ -140,7 +140,7 @@ fn fastest_kept(
     for _ in 0..ROUNDS {
         let start = Instant::now(rt)?;
         rebuild_kept_again(inverses, from, size, parts).map_err(no_memory)?;
-        fastest = megabytes(&start, rt, size)?.max(fastest);
+        fastest = kilobytes(&start, rt, size)?.max(fastest);
     }
     Ok(fastest)
 }
@@ -154,12 +154,15 @@ pub fn measure(rt: &impl Runtime, alloc: Global, code: &Code, block: &[u8]) -> i
     for _ in 0..ROUNDS {
         let start = Instant::now(rt)?;
         encode_again(alloc, code, block).map_err(no_memory)?;
-        encode = megabytes(&start, rt, block.len())?.max(encode);
+        encode = kilobytes(&start, rt, block.len())?.max(encode);
         let start = Instant::now(rt)?;
         rebuild_again(alloc, code, from, block.len(), &parts).map_err(no_memory)?;
-        rebuild = megabytes(&start, rt, block.len())?.max(rebuild);
+        rebuild = kilobytes(&start, rt, block.len())?.max(rebuild);
     }
     let mut inverses = Inverses::new(alloc, code, 1).map_err(no_memory)?;
     let kept = fastest_kept(rt, &mut inverses, from, block.len(), &parts)?;
-    println!(rt; "  MB/s of block: encode {encode}, rebuild {rebuild}, with kept tables {kept}")
+    println!(rt;
+        "  kB/s of blocks of {} bytes: encode {encode}, rebuild {rebuild}, with kept tables {kept}",
+        block.len()
+    )
 }
