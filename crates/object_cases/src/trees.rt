@@ -1,5 +1,6 @@
 // Edits of trees, with names and counts that a plain program gave, and trees that are shared.
 ghost use Rattle.std.specs.Prelude.{◌≡◌, List, ℕ, length, IfOk, IsOk, IsTrue};
+ghost use Rattle.guarded_update.specs.declared.update.Action.TheVariants.{Replace, Append, Truncate, Splice};
 ghost use Rattle.object_model.specs.Updates.{act};
 ghost use Rattle.cow_tree.specs.Versions.{IsTreeIn};
 
@@ -89,18 +90,40 @@ fn can_be_done(edit: &Action, count: usize) -> bool
     ensures { IsTrue result → (bytes : List ℕ) → length bytes ≡ count → IsOk (act edit.now bytes) }
 {
     match edit {
-        Action::Replace { offset, content } => *offset as usize + content.len() <= count,
-        Action::Append { content } => count.saturating_add(content.len()) <= 1_048_576,
-        Action::Truncate { length } => *length as usize <= count,
+        Action::Replace { offset, content } => can_replace(*offset, content, count),
+        Action::Append { content } => can_append(content, count),
+        Action::Truncate { length } => can_truncate(*length, count),
         Action::Splice {
             offset,
             remove,
             content,
-        } => {
-            let taken = *offset as usize + *remove as usize;
-            taken <= count && (count - *remove as usize).saturating_add(content.len()) <= 1_048_576
-        }
+        } => can_splice(*offset, *remove, content, count),
     }
+}
+
+fn can_replace(offset: u32, content: &Bytes, count: usize) -> bool
+    ensures { IsTrue result → (bytes : List ℕ) → length bytes ≡ count → IsOk (act (Replace offset content.now) bytes) }
+{
+    offset as usize + content.len() <= count
+}
+
+fn can_append(content: &Bytes, count: usize) -> bool
+    ensures { IsTrue result → (bytes : List ℕ) → length bytes ≡ count → IsOk (act (Append content.now) bytes) }
+{
+    count.saturating_add(content.len()) <= 1_048_576
+}
+
+fn can_truncate(kept: u32, count: usize) -> bool
+    ensures { IsTrue result → (bytes : List ℕ) → length bytes ≡ count → IsOk (act (Truncate kept) bytes) }
+{
+    kept as usize <= count
+}
+
+fn can_splice(offset: u32, remove: u32, content: &Bytes, count: usize) -> bool
+    ensures { IsTrue result → (bytes : List ℕ) → length bytes ≡ count → IsOk (act (Splice offset remove content.now) bytes) }
+{
+    let taken = offset as usize + remove as usize;
+    taken <= count && (count - remove as usize).saturating_add(content.len()) <= 1_048_576
 }
 
 // The bytes of version 1, and its height, its strings and the namings with that of version 0.
