@@ -1,15 +1,14 @@
 -- Where rows and trees differ.
-use Rattle.std.proofs.Common.{◌≡◌, ℕ, zero, suc, ◌+◌, ◌<◌, ◌≤◌, Bool, true, false, cond, List, [], ◌∷◌, ◌++◌, length, take, drop, Option, None, Some, slice_get, get_or, unwrap_or, refl, ap, ap₂, sym, ◌∙◌, arith, length-drop}
+use Rattle.std.proofs.Common.{◌≡◌, ℕ, zero, suc, ◌+◌, ◌<◌, ◌≤◌, cond, List, [], ◌∷◌, ◌++◌, length, take, drop, Option, None, Some, slice_get, get_or, refl, ap, ap₂, sym, ◌∙◌, arith, length-drop}
 use Rattle.std.proofs.lemmas.List.{append_assoc, append-nil}
 use Rattle.std.proofs.Math.Seq.{take-nil as none_taken}
 use Rattle.std.proofs.lemmas.Slice.Eq.{bytes_eq-Decides}
-use Rattle.std.specs.Str.{bytes_eq}
 use Rattle.tree_format.specs.Strings.{inner_string, joined_names}
 use Rattle.tree_format.specs.Grammar.{AreNames}
 use Rattle.tree_format.proofs.Names.{joined_names-injective}
 use Rattle.object_model.specs.Pieces.{pieces}
 use Rattle.object_model.proofs.PieceLemmas.{pieces_cons, pieces_nil}
-use Rattle.cow_tree.specs.Views.{NodeView, TreeView}
+use Rattle.cow_tree.specs.Views.{NodeView}
 use Rattle.cow_tree.specs.Rows.{names_in}
 use Rattle.cow_tree.specs.Groups.{in_groups, IsGrouped}
 use Rattle.cow_tree.specs.Changed.{paired, unless_there, changed_in_row, changed_in_rows}

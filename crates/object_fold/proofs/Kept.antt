@@ -1,5 +1,5 @@
 -- Objects stay known, and the strings of their versions are held.
-use Rattle.std.proofs.Common.{◌≡◌, ℕ, true, cond, List, [], ◌∷◌, ◌++◌, All, Contains, refl, sym, ◌∙◌, ap, subst}
+use Rattle.std.proofs.Common.{◌≡◌, ℕ, true, cond, List, [], ◌∷◌, ◌++◌, All, refl, ◌∙◌, ap, subst}
 use Rattle.std.specs.Str.{bytes_eq}
 use Rattle.std.proofs.lemmas.List.Elements.{All-weaker, All-contains, All-nil, Contains-push}
 use Rattle.std.proofs.lemmas.Slice.Eq.{bytes_eq-Decides}
@@ -7,7 +7,6 @@ use Rattle.block_names.specs.Held.{Held}
 use Rattle.block_names.specs.Growth.{Holds}
 use Rattle.cow_tree.specs.Laws.{Keeps}
 use Rattle.cow_tree.specs.Versions.{IsTreeIn}
-use Rattle.cow_tree.specs.Views.{TreeView}
 use Rattle.cow_tree.proofs.Standing.{stays}
 use Rattle.guarded_update.specs.declared.request.Request.{Request}
 use Rattle.object_model.specs.Trees.{version_strings}

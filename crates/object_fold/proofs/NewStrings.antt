@@ -1,19 +1,19 @@
 -- The strings that a version adds, of the nodes that changed.
-use Rattle.std.proofs.Common.{◌≡◌, ◌||◌, ℕ, ◌<◌, Bool, true, false, cond, List, [], ◌∷◌, ◌++◌, length, drop, slice_get, unwrap_or, Some, None, map, All, refl, ap, ap₂, sym, ◌∙◌, subst, append_assoc}
+use Rattle.std.proofs.Common.{◌≡◌, ◌||◌, ℕ, ◌<◌, Bool, true, false, cond, List, [], ◌∷◌, ◌++◌, length, drop, Some, map, All, refl, ap, ap₂, sym, ◌∙◌, subst, append_assoc}
 use Rattle.std.specs.List.{flat_map, AllByRecursion}
 use Rattle.std.specs.Str.{bytes_eq}
 use Rattle.std.specs.FinMap as finite
 use Rattle.std.proofs.lemmas.Slice.Eq.{bytes_eq-Decides}
-use Rattle.std.proofs.lemmas.List.Elements.{All-append, All-from_recursion, recursion_from_All}
+use Rattle.std.proofs.lemmas.List.Elements.{recursion_from_All}
 use Rattle.block_names.specs.Held.{Held}
 use Rattle.block_names.specs.Growth.{Holds}
 use Rattle.tree_format.specs.Strings.{leaf_string, root_string, height_over}
 use Rattle.object_model.proofs.PieceLemmas.{pieces_nil}
 use Rattle.object_model.specs.Updates.{newest}
-use Rattle.object_model.specs.Trees.{stands_in, first_times, new_strings, leaf_row, rows_from, rows_of, strings_of, root_of, version_name, version_strings, strings_so_far}
+use Rattle.object_model.specs.Trees.{stands_in, first_times, leaf_row, rows_from, rows_of, strings_of, root_of, version_strings, strings_so_far}
 use Rattle.cow_tree.specs.Views.{NodeView, TreeView}
 use Rattle.cow_tree.specs.Rows.{node, nodes, names_in}
-use Rattle.cow_tree.specs.Changed.{paired, unless_there, changed_in_row, changed_in_rows, root_node, nodes_of, changed_nodes}
+use Rattle.cow_tree.specs.Changed.{changed_in_row, changed_in_rows, root_node, nodes_of, changed_nodes}
 use Rattle.cow_tree.specs.Versions.{StandsFor}
 use Rattle.object_fold.specs.Added.{first_named, added_by}
 use Rattle.object_fold.proofs.Adding.{stands_append, all_stand}

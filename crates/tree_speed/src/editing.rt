@@ -84,7 +84,7 @@ pub fn replace_each<H: Hash160 + Drop>(
     let mut tree = tree;
     for call in 0..CALLS {
         let place = call.wrapping_mul(7_919) % tree.root().length.max(1);
-        let byte = (call % 199).wrapping_add(round) as u8;
+        let byte = ((call % 199).wrapping_add(round) % 256) as u8;
         tree = put_byte(alloc, book, &tree, place, byte)?;
     }
     Some(tree)

@@ -1,4 +1,4 @@
-use Rattle.std.proofs.Common.{◌<◌, ◌++◌, ◌∙◌, [], List, length, unwrap_or, ap, ap₂, arith}
+use Rattle.std.proofs.Common.{◌<◌, ◌++◌, ◌∙◌, [], List, length, unwrap_or, ap₂, arith}
 use Rattle.cow_tree.specs.Views.{NodeView}
 use Rattle.cow_tree.specs.Changed.{changed_in_row}
 use Rattle.cow_tree.proofs.Differing.{paired_next}

@@ -1,7 +1,5 @@
-use Rattle.std.proofs.Common.{◌≡◌, List, sym, ◌∙◌, ap, subst}
+use Rattle.std.proofs.Common.{◌≡◌, sym, ◌∙◌, ap}
 use Rattle.std.proofs.lemmas.Slice.Eq.{bytes_eq-Decides}
-use Rattle.tree_format.specs.Grammar.{AreNames}
-use Rattle.cow_tree.specs.Views.{NodeView}
 use Rattle.cow_tree.specs.Rows.{names_in}
 use Rattle.cow_tree.proofs.Differing.{same_names}
 use Rattle.cow_tree.proofs.leaf_row.Group.has_names_of.Goals as goal

@@ -1,6 +1,6 @@
 use Rattle.std.proofs.Common.{List, [], ◌∷◌, ◌++◌, ap, ap₂, ◌∙◌}
 use Rattle.cow_tree.specs.Views.{NodeView, TreeView}
-use Rattle.cow_tree.specs.Changed.{changed_in_row, changed_in_rows, root_node, changed_nodes}
+use Rattle.cow_tree.specs.Changed.{changed_in_row, changed_in_rows, root_node}
 use Rattle.cow_tree.proofs.Differing.{groups_changed}
 use Rattle.cow_tree.proofs.tree.Tree.changed_nodes.Goals as goal
 

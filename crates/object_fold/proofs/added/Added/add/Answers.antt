@@ -1,4 +1,4 @@
-use Rattle.std.proofs.Common.{◌≡◌, ℕ, List, [], ◌∷◌, ◌++◌, Option, None, Some, unwrap_or, sym, ◌∙◌, ap, subst, rules}
+use Rattle.std.proofs.Common.{◌≡◌, ℕ, List, [], Option, None, unwrap_or, sym, ◌∙◌, ap, subst, rules}
 use Rattle.std.specs.Map.{lookup}
 use Rattle.std.specs.BTreeMap.{BTreeMap, is_at}
 use Rattle.std.specs.Ordering.{nat_cmp}
@@ -7,8 +7,8 @@ use Rattle.std.proofs.lemmas.Result.{on_ok_weaker}
 use Rattle.object_fold.specs.Views.{AddedView, StringsView}
 use Rattle.cow_tree.specs.Views.{NodeView}
 use Rattle.cow_tree.specs.Rows.{names_in}
-use Rattle.object_fold.specs.Added.{strings_at, AddsStrings, AddsUnder, HasJust}
-use Rattle.object_fold.proofs.Adding.{adds_there, adds_first}
+use Rattle.object_fold.specs.Added.{strings_at, AddsUnder}
+use Rattle.object_fold.proofs.Adding.{adds_there}
 use Rattle.object_fold.proofs.added.Added.add.Goals as goal
 
 pub returns-in-Some : goal.returns-in-Some

@@ -1,7 +1,6 @@
-use Rattle.std.proofs.Common.{List, [], ◌∷◌, ◌++◌, sym, ◌∙◌, ap, subst}
+use Rattle.std.proofs.Common.{[], ◌∷◌, ◌++◌, ◌∙◌, ap, subst}
 use Rattle.std.proofs.lemmas.Result.{on_ok_weaker}
-use Rattle.object_fold.specs.Views.{StringsView}
-use Rattle.object_fold.specs.Added.{HasJust, AddsStrings}
+use Rattle.object_fold.specs.Added.{AddsStrings}
 use Rattle.object_fold.proofs.added.Strings.add.Goals as goal
 
 pub returns : goal.returns

@@ -1,5 +1,4 @@
-use Rattle.std.proofs.Common.{◌≡◌, [], ap, ◌∙◌, arith}
-use Rattle.object_fold.specs.Views.{ObjectsView}
+use Rattle.std.proofs.Common.{[], ap, ◌∙◌, arith}
 use Rattle.object_fold.proofs.ExecutedLemmas.{after_nothing, known_nothing}
 use Rattle.object_fold.proofs.objects.Objects.new.Goals as goal
 
