@@ -246,6 +246,31 @@ fn edits_share_what_stays(rt: HostRuntime) -> Result<(), Fail> {
     Ok(())
 }
 
+// The bytes of version 1, an edit, and how many nodes of version 2 and then of version 1 no other tree
+// holds.
+const OWN: &[(usize, Edit, usize, usize)] = &[
+    (8192, Edit::Replace(64, "0000"), 3, 3),
+    (4095, Edit::Append("2122"), 5, 2),
+    (8192, Edit::Truncate(4096), 0, 66),
+    (8192, Edit::Splice(5000, 0, "21"), 54, 52),
+];
+
+fn own(alloc: Global, length: usize, edit: &Edit) -> Result<(usize, usize), Fail> {
+    let mut book = Book::new(alloc, Sha1Hash);
+    let first = filled(alloc, &mut book, length)?;
+    let second = edited(&mut book, &first, action_of(alloc, edit)?)?;
+    Ok((second.own_nodes(), first.own_nodes()))
+}
+
+#[test]
+fn nodes_of_one_tree(rt: HostRuntime) -> Result<(), Fail> {
+    for (length, edit, second, first) in OWN {
+        let found = own(rt.alloc(), *length, edit)?;
+        assert_eq!(rt; found, (*second, *first), "at {length}");
+    }
+    Ok(())
+}
+
 // The names of the leaves of version 1, of 65 bytes.
 const LEAVES: &[(u32, Option<&str>)] = &[
     (0, Some("58e455a416509ac0121c86dd23fa8d2cc9cd1a87")),
