@@ -1,4 +1,5 @@
 pub mod Digest
 pub mod Faults
 pub mod Growth
+pub mod Clashes
 pub mod Held

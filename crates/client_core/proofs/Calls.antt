@@ -2,10 +2,12 @@
 use Rattle.std.proofs.Common.{◌≡◌, List, [], ◌∷◌, ℕ, Contains, Result, Err, sym, ap, ◌∙◌, subst}
 use Rattle.std.specs.FinMap as map
 use Rattle.block_names.specs.Held.{Held}
-use Rattle.block_names.specs.Growth.{keep_all, Grew, IsClashIn}
+use Rattle.std.proofs.lemmas.List.Elements.{All-cons, All-nil}
+use Rattle.block_names.specs.Growth.{keep_all, Grew, IsClashIn, Holds}
+use Rattle.block_names.specs.Clashes.{AreHeld}
 use Rattle.block_names.specs.declared.fault.NameFault.{NameFault}
 use Rattle.block_names.specs.declared.fault.NameFault.TheVariants.{Memory}
-use Rattle.block_names.proofs.Grown.{grew_none, grew_then, clash_wider}
+use Rattle.block_names.proofs.Grown.{grew_none, grew_then, clash_wider, now_held, still_held}
 use Rattle.ring_model.proofs.Lists.{there_first, there_later}
 use Rattle.client_core.specs.Naming.{Names}
 
@@ -40,3 +42,9 @@ clash_second h now y s t f at clash =
 pub both_held : (h : List ℕ → List ℕ) (a b c : Held) (x y s t : List ℕ) → x ≡ s → y ≡ t → b ≡ map.insert a (h x) x → c ≡ map.insert b (h y) y → c ≡ keep_all h (s ∷ t ∷ []) a
 both_held h a b c x y s t is at one two =
     two ∙ ap (λ z. map.insert b (h z) z) at ∙ ap (λ m. map.insert m (h t) t) (one ∙ ap (λ z. map.insert a (h z) z) is)
+
+-- each of the two is held then
+pub both_known : (h : List ℕ → List ℕ) (a b c : Held) (x y s t : List ℕ) → x ≡ s → y ≡ t → b ≡ map.insert a (h x) x → c ≡ map.insert b (h y) y → Grew h b (λ z. z ≡ y) c → AreHeld h c (s ∷ t ∷ [])
+both_known h a b c x y s t is at one two grew =
+    All-cons (Holds h c) s (t ∷ []) (still_held h b c (λ z. z ≡ y) s grew (subst (Holds h b) is (subst (λ m. Holds h m x) (sym one) (now_held h a x))))
+    (All-cons (Holds h c) t [] (subst (Holds h c) at (subst (λ m. Holds h m y) (sym two) (now_held h b y))) (All-nil (Holds h c)))

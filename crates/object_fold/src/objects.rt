@@ -3,6 +3,7 @@ ghost use Rattle.std.specs.Prelude.{◌≡◌, ◌+◌, ◌<◌, ◌≤◌, ◌^
 ghost use Rattle.std.specs.Option.{option_copied};
 ghost use Rattle.block_names.specs.Held.{Held};
 ghost use Rattle.block_names.specs.Growth.{Grew, IsClashIn, keep_all};
+ghost use Rattle.block_names.specs.Clashes.{AreHeld};
 ghost use Rattle.object_model.specs.Trees.{version_strings};
 ghost use Rattle.object_model.specs.Folds.{Refuses, made_by, versions_after};
 ghost use Rattle.cow_tree.specs.Versions.{IsTreeIn};
@@ -55,6 +56,7 @@ impl Objects {
         ensures after { IfOk result (AreAfter H.naming block []) }
         ensures known { IfOk result (AreKnown H.naming book.new.held) }
         ensures held { OnOk result (book.new.held ≡ keep_all H.naming (version_strings H.naming block [] []) book.old.held) }
+        ensures all { OnOk result (AreHeld H.naming book.new.held (version_strings H.naming block [] [])) }
         ensures grew { Grew H.naming book.old.held (Contains (version_strings H.naming block [] [])) book.new.held }
         ensures counted { book.new.namings ≤ book.old.namings + 1 }
         ensures fault { IfErr result (IsClashIn H.naming book.new.held (Contains (version_strings H.naming block [] []))) }
@@ -86,6 +88,7 @@ impl Objects {
         ensures after { OnOk result (ForAfter H.naming self.old (λ block earlier. AreAfter H.naming block (request.now ∷ earlier) self.new)) }
         ensures known { OnOk result (AreKnown H.naming book.new.held self.new) }
         ensures held { OnOk result (ForAfter H.naming self.old (λ block earlier. book.new.held ≡ keep_all H.naming (strings_named H.naming block request.now earlier) book.old.held)) }
+        ensures all { OnOk result (ForAfter H.naming self.old (λ block earlier. AreHeld H.naming book.new.held (strings_named H.naming block request.now earlier))) }
         ensures grew { ForAfter H.naming self.old (λ block earlier. Grew H.naming book.old.held (Contains (strings_named H.naming block request.now earlier)) book.new.held) }
         ensures counted { ForAfter H.naming self.old (λ block earlier. book.new.namings ≤ book.old.namings + most_named H.naming block request.now earlier) }
         ensures fault { IfErr result (λ fault. ForAfter H.naming self.old (λ block earlier. IsClashIn H.naming book.new.held (Contains (strings_named H.naming block request.now earlier)) fault)) }

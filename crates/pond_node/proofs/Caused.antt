@@ -4,8 +4,11 @@ use Rattle.std.specs.List.{flat_map}
 use Rattle.std.proofs.lemmas.List.Elements.{Contains-append_left, Contains-append_right}
 use Rattle.block_names.specs.Held.{Held}
 use Rattle.block_names.specs.Growth.{keep_all, Grew, IsClashIn}
+use Rattle.block_names.specs.Clashes.{AreHeld}
 use Rattle.block_names.specs.declared.fault.NameFault.{NameFault}
 use Rattle.block_names.proofs.Grown.{grew_then, clash_wider, keep_append}
+use Rattle.block_names.proofs.Clashed.{held_then}
+use Rattle.cow_tree.specs.Laws.{Keeps}
 use Rattle.ring_message.specs.declared.message.Out.{Out}
 use Rattle.ring_model.specs.Messages.{Ring, Letter, Packet, Member, Client}
 use Rattle.ring_model.specs.Messages as model
@@ -72,6 +75,9 @@ module _ (h : List ℕ → List ℕ) (g : Ring) (namings : Namings) (got : List 
 
   pub all_held : (old between now : Held) → between ≡ keep_all h asked old → now ≡ keep_all h done between → now ≡ keep_all h all old
   all_held old between now first then = then ∙ ap (keep_all h done) first ∙ sym (keep_append h asked done old)
+
+  pub all_known : (between now : Held) → Keeps between now → AreHeld h between asked → AreHeld h now done → AreHeld h now all
+  all_known between now keeps first then = held_then h between now asked done keeps first then
 
   pub asked_grew : (old now : Held) → Grew h old (Contains asked) now → Grew h old (Contains all) now
   asked_grew old now grew = grew_wider h old now (Contains asked) (Contains all) (Contains-append_left asked done) grew

@@ -3,8 +3,11 @@ use Rattle.std.proofs.Common.{◌≡◌, ℕ, List, [], ◌∷◌, ◌++◌, Con
 use Rattle.std.proofs.lemmas.List.Elements.{Contains-append_left, Contains-append_right}
 use Rattle.block_names.specs.Held.{Held}
 use Rattle.block_names.specs.Growth.{keep_all, Grew, IsClashIn}
+use Rattle.block_names.specs.Clashes.{AreHeld}
 use Rattle.block_names.specs.declared.fault.NameFault.{NameFault}
 use Rattle.block_names.proofs.Grown.{grew_none, grew_then, clash_wider, keep_append}
+use Rattle.block_names.proofs.Clashed.{held_then}
+use Rattle.cow_tree.specs.Laws.{Keeps}
 use Rattle.guarded_update.specs.declared.request.Request.{Request}
 use Rattle.guarded_update.specs.Fitting.{IsRequest}
 use Rattle.guarded_update.specs.Spelling.{request_string}
@@ -57,3 +60,8 @@ module _ (h : List ℕ → List ℕ) (block : ℕ) (before : List (List ℕ)) (s
   all_held outcome e held between now first then =
       then ∙ ap (keep_all h (label_named r.label outcome)) first ∙ sym (keep_append h versions (label_named r.label outcome) held)
       ∙ ap (λ ss. keep_all h ss held) (sym (named_is h block before string r spelled is outcome e))
+
+  pub all_known : (outcome : Outcome) → outcome ≡ outcome_after h block r (requests_of before) → (between now : Held) → Keeps between now
+      → AreHeld h between versions → AreHeld h now (label_named r.label outcome) → AreHeld h now named
+  all_known outcome e between now keeps first then =
+      subst (AreHeld h now) (sym (named_is h block before string r spelled is outcome e)) (held_then h between now versions (label_named r.label outcome) keeps first then)

@@ -3,8 +3,10 @@ use Rattle.std.proofs.Common.{◌≡◌, ℕ, ◌+◌, ◌-◌, ◌<◌, ◌≤�
 use Rattle.std.proofs.lemmas.List.{take_all}
 use Rattle.block_names.specs.Held.{Held}
 use Rattle.block_names.specs.Growth.{keep_all, Grew, IsClashIn}
+use Rattle.block_names.specs.Clashes.{AreHeld}
 use Rattle.block_names.specs.declared.fault.NameFault.{NameFault}
 use Rattle.block_names.proofs.Grown.{grew_none, grew_then, clash_wider, keep_append}
+use Rattle.block_names.proofs.Clashed.{held_none, held_then}
 use Rattle.ring_message.specs.declared.message.Out.{Out}
 use Rattle.cow_tree.specs.Laws.{Keeps}
 use Rattle.object_fold.specs.Executed.{AreKnown}
@@ -34,6 +36,7 @@ pub record Running (h : List ℕ → List ℕ) (old : Node) (before : Held) (giv
   pub is_done : ForLater h old (λ g namings i got done. HasDone h (take place (executed g got)) node g namings i got)
   pub sent : ForLater h old (λ g namings i got done. IsRingOf h g → map (packet i) out ≡ map (packet i) given ++ flat_map (answers g i) (between (length done) place (executed g got)))
   pub kept : ForLater h old (λ g namings i got done. held ≡ keep_all h (flat_map namings (between (length done) place (executed g got))) before)
+  pub all : ForLater h old (λ g namings i got done. AreHeld h held (flat_map namings (between (length done) place (executed g got))))
   pub grew : ForLater h old (λ g namings i got done. Grew h before (Contains (later_named g namings got done)) held)
   pub keeps : Keeps before held
 
@@ -55,6 +58,9 @@ running_starts h old before given first at known = record {
       ∙ ap (λ xs. map (packet i) given ++ flat_map (answers g i) xs) (sym (none_between (length done) (executed g got)) ∙ ap (λ n. between (length done) n (executed g got)) (sym (at ∙ counted h done old g namings i got st)));
   kept = λ g namings i got done st prefix.
       ap (λ xs. keep_all h (flat_map namings xs) before) (sym (none_between (length done) (executed g got)) ∙ ap (λ n. between (length done) n (executed g got)) (sym (at ∙ counted h done old g namings i got st)));
+  all = λ g namings i got done st prefix.
+      subst (λ xs. AreHeld h before (flat_map namings xs)) (sym (none_between (length done) (executed g got)) ∙ ap (λ n. between (length done) n (executed g got)) (sym (at ∙ counted h done old g namings i got st)))
+      (held_none h before);
   grew = λ g namings i got done st prefix. grew_none h before (Contains (later_named g namings got done));
   keeps = λ name string is. is;
 }
@@ -95,9 +101,10 @@ module _ (h : List ℕ → List ℕ) (old : Node) (before : Held) (given : List 
         → ForNext h slot node (λ g namings i got. IsRingOf h g → map (packet i) more ≡ map (packet i) out ++ answers g i (take slot (executed g got)))
         → (AreSeated out → AreSeated more) → AreKnown h now next.objects → AddsOne node.objects next.objects node.outcomes next.outcomes
         → ForNext h slot node (λ g namings i got. now ≡ keep_all h (namings (take slot (executed g got))) held)
+        → ForNext h slot node (λ g namings i got. AreHeld h now (namings (take slot (executed g got))))
         → ForNext h slot node (λ g namings i got. Grew h held (Contains (namings (take slot (executed g got)))) now)
         → Keeps held now → Running h old before given slot next now more
-    running_on next now more is_done sent seats known one kept grew keeps = record {
+    running_on next now more is_done sent seats known one kept all_held grew keeps = record {
       known = known;
       few = one.few runs.few;
       low = omega (arith, one.outcomes, runs.low, is_slot);
@@ -119,6 +126,13 @@ module _ (h : List ℕ → List ℕ) (old : Node) (before : Held) (given : List 
           ∙ ap (λ ss. keep_all h ss before)
           (ap (λ n. flat_map namings (between (length done) place all) ++ namings (take n all)) is_slot
           ∙ sym (flat_between namings (length done) place all (done_low g namings i got done st)) ∙ ap (λ n. flat_map namings (between (length done) n all)) (sym is_slot));
+      all = λ g namings i got done st prefix.
+          let all = executed g got in
+          subst (AreHeld h now)
+          (ap (λ n. flat_map namings (between (length done) place all) ++ namings (take n all)) is_slot
+          ∙ sym (flat_between namings (length done) place all (done_low g namings i got done st)) ∙ ap (λ n. flat_map namings (between (length done) n all)) (sym is_slot))
+          (held_then h held now (flat_map namings (between (length done) place all)) (namings (take slot all)) keeps (runs.all g namings i got done st prefix)
+          (for_slot (λ g namings i got. AreHeld h now (namings (take slot (executed g got)))) all_held g namings i got done st prefix));
       grew = slot_grew now grew;
       keeps = λ name string is. keeps name string (runs.keeps name string is);
     }
@@ -145,3 +159,7 @@ module _ (h : List ℕ → List ℕ) (old : Node) (before : Held) (given : List 
     pub all_kept : ForLater h old (λ g namings i got done. held ≡ keep_all h (later_named g namings got done) before)
     all_kept = λ g namings i got done st prefix.
         runs.kept g namings i got done st prefix ∙ ap (λ n. keep_all h (flat_map namings (between (length done) n (executed g got))) before) (ended g namings i got done st prefix)
+
+    pub all_known : ForLater h old (λ g namings i got done. AreHeld h held (later_named g namings got done))
+    all_known = λ g namings i got done st prefix.
+        subst (λ n. AreHeld h held (flat_map namings (between (length done) n (executed g got)))) (ended g namings i got done st prefix) (runs.all g namings i got done st prefix)

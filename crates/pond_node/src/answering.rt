@@ -1,6 +1,7 @@
 // What is told of an executed request.
 ghost use Rattle.std.specs.Prelude.{◌≡◌, ◌≤◌, ◌++◌, ◌∷◌, [], ℕ, map, Contains, IfOk, IfErr, OnOk};
 ghost use Rattle.block_names.specs.Growth.{keep_all, Grew, IsClashIn};
+ghost use Rattle.block_names.specs.Clashes.{AreHeld};
 ghost use Rattle.guarded_update.specs.Fitting.{IsRequest};
 ghost use Rattle.object_model.specs.Trees.{object_name};
 ghost use Rattle.ring_message.specs.Grammar.{OutcomeFits};
@@ -59,6 +60,7 @@ pub(crate) fn tell<H: Hash160 + Drop>(
     ensures sent { OnOk result ((g : Ring) (i : ℕ) → g.clients ≡ clients → map (packet i) out.new.items ≡ map (packet i) out.old.items ++ hearts g i (mark_of (object_name H.naming label.now) outcome.now)) }
     ensures seats { OnOk result (AreSeated out.old.items → AreSeated out.new.items) }
     ensures held { OnOk result (book.new.held ≡ keep_all H.naming (label_named label.now outcome.now) book.old.held) }
+    ensures all { OnOk result (AreHeld H.naming book.new.held (label_named label.now outcome.now)) }
     ensures grew { Grew H.naming book.old.held (Contains (label_named label.now outcome.now)) book.new.held }
     ensures fault { IfErr result (IsClashIn H.naming book.new.held (Contains (label_named label.now outcome.now))) }
 {

@@ -1,6 +1,7 @@
 // The execution of one request.
 ghost use Rattle.std.specs.Prelude.{◌≡◌, ◌≤◌, ◌<◌, ◌+◌, ◌^◌, ◌++◌, ◌∷◌, [], ℕ, List, length, map, Some, Contains, IfOk, IfErr, IfSome, OnOk};
 ghost use Rattle.block_names.specs.Growth.{keep_all, Grew, IsClashIn};
+ghost use Rattle.block_names.specs.Clashes.{AreHeld};
 ghost use Rattle.guarded_update.specs.declared.request.Request.{Request as Asked};
 ghost use Rattle.guarded_update.specs.Fitting.{IsRequest};
 ghost use Rattle.guarded_update.specs.Spelling.{request_string};
@@ -48,6 +49,7 @@ pub(crate) fn execute<H: Hash160 + Drop>(
     ensures one { OnOk result (AddsOne objects.old objects.new outcomes.old outcomes.new) }
     ensures keeps { Keeps book.old.held book.new.held }
     ensures held { OnOk result (ForBefore H.naming objects.old outcomes.old string.now (λ block before. book.new.held ≡ keep_all H.naming (namings_by H.naming block (before ++ string.now ∷ [])) book.old.held)) }
+    ensures all { OnOk result (ForBefore H.naming objects.old outcomes.old string.now (λ block before. AreHeld H.naming book.new.held (namings_by H.naming block (before ++ string.now ∷ [])))) }
     ensures grew { ForBefore H.naming objects.old outcomes.old string.now (λ block before. Grew H.naming book.old.held (Contains (namings_by H.naming block (before ++ string.now ∷ []))) book.new.held) }
     ensures fault { IfErr result (λ fault. ForBefore H.naming objects.old outcomes.old string.now (λ block before. IsClashIn H.naming book.new.held (Contains (namings_by H.naming block (before ++ string.now ∷ []))) fault)) }
 {

@@ -2,6 +2,7 @@
 ghost use Rattle.std.specs.Prelude.{◌≡◌, ◌≤◌, ◌<◌, ◌+◌, ◌-◌, ◌^◌, ◌++◌, ℕ, List, length, map, take, Contains, IfOk, IfErr, OnOk};
 ghost use Rattle.std.specs.List.{flat_map};
 ghost use Rattle.block_names.specs.Growth.{keep_all, Grew, IsClashIn};
+ghost use Rattle.block_names.specs.Clashes.{AreHeld};
 ghost use Rattle.cow_tree.specs.Laws.{Keeps};
 ghost use Rattle.object_fold.specs.Executed.{AreKnown};
 ghost use Rattle.ring_model.specs.Messages.{Ring, Letter};
@@ -35,6 +36,7 @@ impl Node {
         ensures known { OnOk result (IsKnown H.naming book.new.held self.new) }
         ensures keeps { Keeps book.old.held book.new.held }
         ensures held { OnOk result (ForLater H.naming self.old (λ g namings i got done. book.new.held ≡ keep_all H.naming (flat_map namings (longer (length done) (executed g got))) book.old.held)) }
+        ensures all { OnOk result (ForLater H.naming self.old (λ g namings i got done. AreHeld H.naming book.new.held (flat_map namings (longer (length done) (executed g got))))) }
         ensures grew { ForLater H.naming self.old (λ g namings i got done. Grew H.naming book.old.held (Contains (flat_map namings (longer (length done) (executed g got)))) book.new.held) }
         ensures fault { IfErr result (λ fault. ForLater H.naming self.old (λ g namings i got done. IsClashIn H.naming book.new.held (Contains (flat_map namings (longer (length done) (executed g got)))) fault)) }
     {
@@ -66,6 +68,7 @@ impl Node {
         ensures one { OnOk result (AddsOne self.old.objects self.new.objects self.old.outcomes self.new.outcomes) }
         ensures keeps { Keeps book.old.held book.new.held }
         ensures held { OnOk result (ForNext H.naming seq.0 self.old (λ g namings i got. book.new.held ≡ keep_all H.naming (namings (take seq.0 (executed g got))) book.old.held)) }
+        ensures all { OnOk result (ForNext H.naming seq.0 self.old (λ g namings i got. AreHeld H.naming book.new.held (namings (take seq.0 (executed g got))))) }
         ensures grew { ForNext H.naming seq.0 self.old (λ g namings i got. Grew H.naming book.old.held (Contains (namings (take seq.0 (executed g got)))) book.new.held) }
         ensures fault { IfErr result (λ fault. ForNext H.naming seq.0 self.old (λ g namings i got. IsClashIn H.naming book.new.held (Contains (namings (take seq.0 (executed g got)))) fault)) }
     {

@@ -2,6 +2,7 @@
 ghost use Rattle.std.specs.Prelude.{◌≡◌, ◌≤◌, ◌∷◌, [], ℕ, List, map, length, Contains, IfOk, IfErr, OnOk};
 ghost use Rattle.std.specs.List.{AllByRecursion};
 ghost use Rattle.block_names.specs.Growth.{keep_all, Grew, IsClashIn};
+ghost use Rattle.block_names.specs.Clashes.{AreHeld};
 ghost use Rattle.object_model.specs.Trees.{version_strings};
 ghost use Rattle.cow_tree.specs.Laws.{Keeps};
 ghost use Rattle.ring_model.specs.Messages.{Ring, Letter};
@@ -42,6 +43,7 @@ impl Node {
             → NodeStands node g namings id.0 []) }
         ensures known { IfOk result (IsKnown H.naming book.new.held) }
         ensures held { OnOk result (book.new.held ≡ keep_all H.naming (version_strings H.naming block [] []) book.old.held) }
+        ensures all { OnOk result (AreHeld H.naming book.new.held (version_strings H.naming block [] [])) }
         ensures grew { Grew H.naming book.old.held (Contains (version_strings H.naming block [] [])) book.new.held }
         ensures fault { IfErr result (IsClashIn H.naming book.new.held (Contains (version_strings H.naming block [] []))) }
     {
@@ -79,6 +81,8 @@ impl Node {
         ensures keeps { Keeps book.old.held book.new.held }
         ensures held { OnOk result ((g : Ring) (namings : Namings) (i : ℕ) (got : List Letter) → IsRingOf H.naming g → IsParty g (who from) → NodeStands self.old g namings i got
             → book.new.held ≡ keep_all H.naming (strings_for g namings got (letter from bytes.now)) book.old.held) }
+        ensures all { OnOk result ((g : Ring) (namings : Namings) (i : ℕ) (got : List Letter) → IsRingOf H.naming g → IsParty g (who from) → NodeStands self.old g namings i got
+            → AreHeld H.naming book.new.held (strings_for g namings got (letter from bytes.now))) }
         ensures grew { (g : Ring) (namings : Namings) (i : ℕ) (got : List Letter) → IsRingOf H.naming g → IsParty g (who from) → NodeStands self.old g namings i got
             → Grew H.naming book.old.held (Contains (strings_for g namings got (letter from bytes.now))) book.new.held }
         ensures fault { IfErr result (λ fault. (g : Ring) (namings : Namings) (i : ℕ) (got : List Letter) → IsRingOf H.naming g → IsParty g (who from) → NodeStands self.old g namings i got

@@ -6,6 +6,7 @@ use Rattle.std.proofs.lemmas.Bool.{cases_lt}
 use Rattle.std.proofs.lemmas.List.{get_or_append_left, get_or_push}
 use Rattle.block_names.specs.Held.{Held}
 use Rattle.block_names.specs.Growth.{keep_all, Grew}
+use Rattle.block_names.specs.Clashes.{AreHeld}
 use Rattle.block_names.proofs.Grown.{grew_none, grew_then, now_held, held_same}
 use Rattle.guarded_update.specs.declared.setup.Setup.{Setup}
 use Rattle.tree_format.specs.Strings.{root_string, leaf_string, height_over}
@@ -47,6 +48,7 @@ pub record AreMade (h : List ℕ → List ℕ) (setup : Setup) (first : Held) (n
   pub known : Each (IsKnown h now) nodes
   pub again : keep_all h (first_strings h setup) now ≡ keep_all h (first_strings h setup) first
   pub held : 0 < count → now ≡ keep_all h (first_strings h setup) first
+  pub all : 0 < count → AreHeld h now (first_strings h setup)
   pub grew : Grew h first (Contains (first_strings h setup)) now
 
 pub none_made : (h : List ℕ → List ℕ) (setup : Setup) (held : Held) (nodes : List Node) → nodes ≡ [] → AreMade h setup held nodes held 0
@@ -56,6 +58,7 @@ none_made h setup held nodes none = record {
   known = subst (Each (IsKnown h held)) (sym none) tt;
   again = refl;
   held = λ low. absurd (omega arith);
+  all = λ low. absurd (omega arith);
   grew = grew_none h held (Contains (first_strings h setup));
 }
 
@@ -70,14 +73,15 @@ node_known h held now node keeps is = record { objects_known = known_still h hel
 -- one node more
 pub one_made : (h : List ℕ → List ℕ) (setup : Setup) (first old new : Held) (nodes all : List Node) (node : Node) (count : ℕ) → 0 < setup.block → AreMade h setup first nodes old count
     → all ≡ nodes ++ node ∷ [] → ((manifest : Manifest) → NodeStands node (ring_by h setup manifest) (namings_by h setup.block) count []) → IsKnown h new node
-    → new ≡ keep_all h (first_strings h setup) old → Grew h old (Contains (first_strings h setup)) new → AreMade h setup first all new (count + 1)
-one_made h setup first old new nodes all node count some m is stands known held grew = record {
+    → new ≡ keep_all h (first_strings h setup) old → AreHeld h new (first_strings h setup) → Grew h old (Contains (first_strings h setup)) new → AreMade h setup first all new (count + 1)
+one_made h setup first old new nodes all node count some m is stands known held there grew = record {
   size = omega (arith, ap length is, length-append nodes (node ∷ []), m.size);
   stand = subst (AllStand h setup) (sym is) each;
   known = subst (Each (IsKnown h new)) (sym is)
       (Each-append (IsKnown h new) nodes (node ∷ []) (Each-weaker (IsKnown h old) (IsKnown h new) (λ one k. node_known h old new one grew.kept k) nodes m.known) (known, tt));
   again = ap (keep_all h (first_strings h setup)) held ∙ kept_again h setup.block old some ∙ m.again;
   held = λ low. held ∙ m.again;
+  all = λ low. there;
   grew = grew_on h first old new (Contains (first_strings h setup)) m.grew grew;
 }
   where

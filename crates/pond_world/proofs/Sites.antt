@@ -3,6 +3,7 @@ use Rattle.std.proofs.Common.{◌≡◌, ℕ, List, get_or, refl, subst}
 use Rattle.block_names.specs.Held.{Held}
 use Rattle.block_names.specs.Faults.{step_fault}
 use Rattle.block_names.specs.Growth.{IsClashIn}
+use Rattle.block_names.specs.Clashes.{IsClashAmong}
 use Rattle.block_names.specs.declared.fault.NameFault.{NameFault}
 use Rattle.block_names.specs.declared.fault.NameFault.TheVariants.{Clash, Memory}
 use Rattle.block_names.specs.declared.fault.StepFault.{StepFault}
@@ -10,7 +11,7 @@ use Rattle.cow_tree.specs.Laws.{Keeps}
 use Rattle.pond_node.specs.declared.node.Node.{Node}
 use Rattle.pond_node.specs.Standing as node
 use Rattle.ring_world.specs.declared.state.World.{World}
-use Rattle.ring_world.specs.Steps.{IsStepClash}
+use Rattle.ring_world.specs.Steps.{IsStepClash, IsStepClashAmong}
 use Rattle.ring_world.specs.Worlds.{IsKnown}
 use Rattle.ring_world.proofs.Requests.{known_still}
 use Rattle.pond_world.proofs.Made.{node_known}
@@ -27,3 +28,11 @@ clash_back h now Of Memory clash = tt
 -- the fault of a step is one of naming
 pub named_clash : (h : List ℕ → List ℕ) (now : Held) (Of : List ℕ → Type 0) (fault : NameFault) (stepped : StepFault) → stepped ≡ step_fault fault → IsStepClash h now Of stepped → IsClashIn h now Of fault
 named_clash h now Of fault stepped is clash = clash_back h now Of fault (subst (IsStepClash h now Of) is clash)
+
+among_back : (h : List ℕ → List ℕ) (held : Held) (Of : List ℕ → Type 0) (fault : NameFault) → IsStepClashAmong h held Of (step_fault fault) → IsClashAmong h held Of fault
+among_back h held Of (Clash old new) clash = clash
+among_back h held Of Memory clash = tt
+
+-- and is of the same strings
+pub named_among : (h : List ℕ → List ℕ) (held : Held) (Of : List ℕ → Type 0) (fault : NameFault) (stepped : StepFault) → stepped ≡ step_fault fault → IsStepClashAmong h held Of stepped → IsClashAmong h held Of fault
+named_among h held Of fault stepped is clash = among_back h held Of fault (subst (IsStepClashAmong h held Of) is clash)

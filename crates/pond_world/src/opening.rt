@@ -2,6 +2,7 @@
 ghost use Rattle.std.specs.Prelude.{◌≡◌, ◌+◌, ◌*◌, ◌<◌, ℕ, [], map, length, slice_index_or, Contains, IfOk, IfErr, OnOk};
 ghost use Rattle.std.specs.List.{AllByRecursion, range_with_len};
 ghost use Rattle.block_names.specs.Growth.{keep_all, Grew, IsClashIn};
+ghost use Rattle.block_names.specs.Clashes.{AreHeld, NoneClash, IsClashAmong};
 ghost use Rattle.object_model.specs.Trees.{version_strings};
 ghost use Rattle.fold_model.specs.Folds.{Manifest, namings_by};
 ghost use Rattle.pond_node.specs.declared.node.Node.{Node};
@@ -24,7 +25,8 @@ pub fn ring_is_sound()
 {}
 
 /// The world of a setup before any event. Nothing is named but the root string of the empty version,
-/// which all members have.
+/// which all members have. `Clash` is answered only where the book held a different string of that name,
+/// and where it did, `Ok` is not.
 pub fn open<H: Hash160 + Drop>(
     alloc: Global,
     book: &mut Book<H>,
@@ -34,8 +36,11 @@ pub fn open<H: Hash160 + Drop>(
     ensures stands { IfOk result (λ world. (manifest : Manifest) → WorldStands NodeStands (ring_by H.naming setup.now manifest) (namings_by H.naming setup.now.block) world []) }
     ensures known { IfOk result (IsKnown node.IsKnown H.naming book.new.held) }
     ensures held { OnOk result (book.new.held ≡ keep_all H.naming (version_strings H.naming setup.now.block [] []) book.old.held) }
+    ensures all { OnOk result (AreHeld H.naming book.new.held (version_strings H.naming setup.now.block [] [])) }
+    ensures apart { OnOk result (NoneClash H.naming book.old.held (Contains (version_strings H.naming setup.now.block [] []))) }
     ensures grew { Grew H.naming book.old.held (Contains (version_strings H.naming setup.now.block [] [])) book.new.held }
     ensures fault { IfErr result (IsClashIn H.naming book.new.held (Contains (version_strings H.naming setup.now.block [] []))) }
+    ensures clash { IfErr result (IsClashAmong H.naming book.old.held (Contains (version_strings H.naming setup.now.block [] []))) }
 {
     let nodes = match nodes_of(alloc, book, setup) {
         Ok(nodes) => nodes,
@@ -62,6 +67,7 @@ fn nodes_of<H: Hash160 + Drop>(
         → NodeStands (slice_index_or nodes.items i d) (ring_by H.naming setup.now manifest) (namings_by H.naming setup.now.block) i []) }
     ensures known { IfOk result (λ nodes. AllByRecursion (node.IsKnown H.naming book.new.held) nodes.items) }
     ensures held { OnOk result (book.new.held ≡ keep_all H.naming (version_strings H.naming setup.now.block [] []) book.old.held) }
+    ensures all { OnOk result (AreHeld H.naming book.new.held (version_strings H.naming setup.now.block [] [])) }
     ensures grew { Grew H.naming book.old.held (Contains (version_strings H.naming setup.now.block [] [])) book.new.held }
     ensures fault { IfErr result (IsClashIn H.naming book.new.held (Contains (version_strings H.naming setup.now.block [] []))) }
 {

@@ -1,8 +1,9 @@
 // A world with its book of names.
-ghost use Rattle.std.specs.Prelude.{◌≡◌, ◌≢◌, ◌==◌, ◌<◌, ℕ, false, List, [], ◌∷◌, ◌++◌, filter, length, Contains, IfOk, IfErr};
+ghost use Rattle.std.specs.Prelude.{◌≡◌, ◌≢◌, ◌==◌, ◌<◌, ℕ, false, List, [], ◌∷◌, ◌++◌, filter, length, Contains, IfOk, IfErr, OnOk};
 ghost use Rattle.std.specs.FinMap as map;
 ghost use Rattle.block_names.specs.Faults.{step_fault};
 ghost use Rattle.block_names.specs.Growth.{keep_all, Grew};
+ghost use Rattle.block_names.specs.Clashes.{AreHeld, NoneClash, IsClashAmong};
 ghost use Rattle.block_names.specs.declared.fault.StepFault.TheVariants.{Ended};
 ghost use Rattle.object_model.specs.Trees.{version_strings};
 ghost use Rattle.ring_model.specs.Messages.{Ring, Client as by};
@@ -66,8 +67,11 @@ impl<H: Hash160 + Drop> Site<H> {
         requires { IsSetup setup.now }
         ensures stands { IfOk result (λ site. (manifest : Manifest) → WorldStands NodeStands (ring_by H.naming setup.now manifest) (namings_by H.naming setup.now.block) site.world []) }
         ensures held { IfOk result (λ site. site.held ≡ keep_all H.naming (version_strings H.naming setup.now.block [] []) map.empty) }
+        ensures all { IfOk result (λ site. AreHeld H.naming site.held (version_strings H.naming setup.now.block [] [])) }
+        ensures apart { OnOk result (NoneClash H.naming map.empty (Contains (version_strings H.naming setup.now.block [] []))) }
         ensures grew { IfOk result (λ site. Grew H.naming map.empty (Contains (version_strings H.naming setup.now.block [] [])) site.held) }
         ensures fault { IfErr result (IsClashAfter H.naming map.empty (Contains (version_strings H.naming setup.now.block [] []))) }
+        ensures clash { IfErr result (IsClashAmong H.naming map.empty (Contains (version_strings H.naming setup.now.block [] []))) }
     {
         let mut book = Book::new(alloc, hash);
         match open(alloc, &mut book, setup) {
@@ -82,8 +86,11 @@ impl<H: Hash160 + Drop> Site<H> {
         ensures stands { IfOk result (λ done. ForStep NodeStands H.naming self.world event (λ g namings events. WorldStands NodeStands g namings done.0.world (event_of g (world g events) event ∷ events))) }
         ensures said { IfOk result (λ done. ForStep NodeStands H.naming self.world event (λ g namings events. done.1 ≡ said_of g (world g events) (event_of g (world g events) event))) }
         ensures held { IfOk result (λ done. ForStep NodeStands H.naming self.world event (λ g namings events. done.0.held ≡ keep_all H.naming (strings_of g namings (world g events) event) self.held)) }
+        ensures all { IfOk result (λ done. ForStep NodeStands H.naming self.world event (λ g namings events. AreHeld H.naming done.0.held (strings_of g namings (world g events) event))) }
+        ensures apart { OnOk result (ForStep NodeStands H.naming self.world event (λ g namings events. NoneClash H.naming self.held (Contains (strings_of g namings (world g events) event)))) }
         ensures grew { IfOk result (λ done. ForStep NodeStands H.naming self.world event (λ g namings events. Grew H.naming self.held (Contains (strings_of g namings (world g events) event)) done.0.held)) }
         ensures fault { IfErr result (λ fault. ForStep NodeStands H.naming self.world event (λ g namings events. IsClashAfter H.naming self.held (Contains (strings_of g namings (world g events) event)) fault)) }
+        ensures clash { IfErr result (λ fault. ForStep NodeStands H.naming self.world event (λ g namings events. IsClashAmong H.naming self.held (Contains (strings_of g namings (world g events) event)) fault)) }
     {
         let Site {
             mut book,
@@ -101,8 +108,12 @@ impl<H: Hash160 + Drop> Site<H> {
         ensures settles { IfOk result (λ done. ForEvents NodeStands H.naming self.world (λ g namings events. Settles NodeStands g namings (is_skipped skips.now) events done.0.world done.1)) }
         ensures held { IfOk result (λ done. ForEvents NodeStands H.naming self.world (λ g namings events.
             done.0.held ≡ keep_all H.naming (named_along g namings events (settled g (is_skipped skips.now) events done.1)) self.held)) }
+        ensures all { IfOk result (λ done. ForEvents NodeStands H.naming self.world (λ g namings events.
+            AreHeld H.naming done.0.held (named_along g namings events (settled g (is_skipped skips.now) events done.1)))) }
+        ensures apart { OnOk result (ForEvents NodeStands H.naming self.world (λ g namings events. NoneClash H.naming self.held (IsNamedIn g namings (is_skipped skips.now) events))) }
         ensures grew { IfOk result (λ done. ForEvents NodeStands H.naming self.world (λ g namings events. Grew H.naming self.held (IsNamedIn g namings (is_skipped skips.now) events) done.0.held)) }
         ensures fault { IfErr result (λ fault. ForEvents NodeStands H.naming self.world (λ g namings events. IsClashAfter H.naming self.held (IsNamedIn g namings (is_skipped skips.now) events) fault)) }
+        ensures clash { IfErr result (λ fault. ForEvents NodeStands H.naming self.world (λ g namings events. IsClashAmong H.naming self.held (IsNamedIn g namings (is_skipped skips.now) events) fault)) }
     {
         let Site {
             mut book,

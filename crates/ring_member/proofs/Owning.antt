@@ -4,7 +4,9 @@ use Rattle.std.specs.FinMap.{insert}
 use Rattle.std.proofs.lemmas.Bool.{eq-eqb}
 use Rattle.block_names.specs.Held.{Held}
 use Rattle.block_names.specs.Growth.{Grew, keep_all}
+use Rattle.block_names.specs.Clashes.{AreHeld}
 use Rattle.block_names.proofs.Grown.{grew_none, grew_then}
+use Rattle.block_names.proofs.Clashed.{held_one}
 use Rattle.guarded_update.specs.declared.request.Request.{Request as Asked}
 use Rattle.guarded_update.specs.Fitting.{IsRequest, update_fits}
 use Rattle.guarded_update.specs.Spelling.{request_string}
@@ -37,6 +39,9 @@ own_asked r c n own =
 
 pub own_kept : (h : List ℕ → List ℕ) (r : List ℕ) (c n : ℕ) (old new : Held) → IsOwn r c n → new ≡ insert old (h r) r → new ≡ keep_all h (asked_in (Client c) (Request r)) old
 own_kept h r c n old new own e = e ∙ ap (λ ss. keep_all h ss old) (sym (own_asked r c n own))
+
+pub own_held : (h : List ℕ → List ℕ) (r : List ℕ) (c n : ℕ) (old new : Held) → IsOwn r c n → new ≡ insert old (h r) r → AreHeld h new (asked_in (Client c) (Request r))
+own_held h r c n old new own e = subst (AreHeld h new) (sym (own_asked r c n own)) (held_one h old new r e)
 
 pub own_contains : (r : List ℕ) (c n : ℕ) → IsOwn r c n → (s : List ℕ) → s ≡ r → Contains (asked_in (Client c) (Request r)) s
 own_contains r c n own s e = subst (λ ss. Contains ss s) (sym (own_asked r c n own)) (subst (λ x. Contains (r ∷ []) x) (sym e) (there_first r []))

@@ -3,6 +3,7 @@ ghost use Rattle.std.specs.Prelude.{◌≡◌, ◌≤◌, ◌<◌, ◌+◌, ◌*
 ghost use Rattle.std.specs.FinMap.{insert};
 ghost use Rattle.std.specs.List.{AllByRecursion};
 ghost use Rattle.block_names.specs.Growth.{keep_all, Grew, IsClashIn};
+ghost use Rattle.block_names.specs.Clashes.{AreHeld};
 ghost use Rattle.guarded_update.specs.declared.request.Request.{Request as Asked};
 ghost use Rattle.guarded_update.specs.Fitting.{IsRequest};
 ghost use Rattle.guarded_update.specs.Spelling.{request_string};
@@ -67,6 +68,7 @@ impl Member {
             → map (packet i) out.items ≡ sent_to_members g i got (letter from bytes.now ∷ got)) }
         ensures seats { IfOk result (λ out. AreToMembers out.items) }
         ensures held { OnOk result (book.new.held ≡ keep_all H.naming (asked_in (who from) (meaning bytes.now)) book.old.held) }
+        ensures all { OnOk result (AreHeld H.naming book.new.held (asked_in (who from) (meaning bytes.now))) }
         ensures grew { Grew H.naming book.old.held (λ string. Contains (asked_in (who from) (meaning bytes.now)) string) book.new.held }
         ensures fault { IfErr result (IsClashIn H.naming book.new.held (λ string. Contains (asked_in (who from) (meaning bytes.now)) string)) }
     {
@@ -90,6 +92,7 @@ impl Member {
             → map (packet i) out.items ≡ sent_to_members g i got (record { from = who from; message = said message } ∷ got)) }
         ensures seats { IfOk result (λ out. AreToMembers out.items) }
         ensures held { OnOk result (book.new.held ≡ keep_all H.naming (asked_in (who from) (said message)) book.old.held) }
+        ensures all { OnOk result (AreHeld H.naming book.new.held (asked_in (who from) (said message))) }
         ensures grew { Grew H.naming book.old.held (λ string. Contains (asked_in (who from) (said message)) string) book.new.held }
         ensures fault { IfErr result (IsClashIn H.naming book.new.held (λ string. Contains (asked_in (who from) (said message)) string)) }
     {
@@ -111,6 +114,7 @@ impl Member {
             → map said messages.items ≡ told g i got (record { from = who from; message = said message } ∷ got)) }
         ensures fits { IfOk result (λ messages. AllByRecursion MessageFits messages.items) }
         ensures held { OnOk result (book.new.held ≡ keep_all H.naming (asked_in (who from) (said message)) book.old.held) }
+        ensures all { OnOk result (AreHeld H.naming book.new.held (asked_in (who from) (said message))) }
         ensures grew { Grew H.naming book.old.held (λ string. Contains (asked_in (who from) (said message)) string) book.new.held }
         ensures fault { IfErr result (IsClashIn H.naming book.new.held (λ string. Contains (asked_in (who from) (said message)) string)) }
     {
@@ -227,6 +231,7 @@ impl Member {
             → map said messages.items ≡ told g i got (record { from = who from; message = ARequest request } ∷ got)) }
         ensures fits { IfOk result (λ messages. AllByRecursion MessageFits messages.items) }
         ensures held { OnOk result (book.new.held ≡ keep_all H.naming (asked_in (who from) (ARequest request)) book.old.held) }
+        ensures all { OnOk result (AreHeld H.naming book.new.held (asked_in (who from) (ARequest request))) }
         ensures grew { Grew H.naming book.old.held (λ string. Contains (asked_in (who from) (ARequest request)) string) book.new.held }
         ensures fault { IfErr result (IsClashIn H.naming book.new.held (λ string. Contains (asked_in (who from) (ARequest request)) string)) }
     {
@@ -250,6 +255,7 @@ impl Member {
             → map said messages.items ≡ told g i got (record { from = AClient client.0; message = ARequest request } ∷ got)) }
         ensures fits { IfOk result (λ messages. AllByRecursion MessageFits messages.items) }
         ensures held { OnOk result (book.new.held ≡ keep_all H.naming (asked_in (AClient client.0) (ARequest request)) book.old.held) }
+        ensures all { OnOk result (AreHeld H.naming book.new.held (asked_in (AClient client.0) (ARequest request))) }
         ensures grew { Grew H.naming book.old.held (λ string. Contains (asked_in (AClient client.0) (ARequest request)) string) book.new.held }
         ensures fault { IfErr result (IsClashIn H.naming book.new.held (λ string. Contains (asked_in (AClient client.0) (ARequest request)) string)) }
     {

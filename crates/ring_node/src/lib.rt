@@ -10,6 +10,7 @@ ghost use Rattle.std.specs.Prelude.{◌≡◌, ℕ, List, ◌∷◌, map, length
 ghost use Rattle.std.specs.List.{AllByRecursion};
 ghost use Rattle.block_names.specs.Held.{Held};
 ghost use Rattle.block_names.specs.Growth.{keep_all, Grew, IsClashIn};
+ghost use Rattle.block_names.specs.Clashes.{AreHeld};
 ghost use Rattle.cow_tree.specs.Laws.{Keeps};
 ghost use Rattle.ring_model.specs.Messages.{Ring, Letter};
 ghost use Rattle.ring_model.specs.Member.{causes, executed as executed_by};
@@ -49,6 +50,8 @@ pub trait Node: Drop {
         ensures known { OnOk result (knows H.naming book.new.held self.new) }
         ensures held { OnOk result ((g : Ring) (namings : Namings) (i : ℕ) (got : List Letter) → IsRingOf H.naming g → IsParty g (who from) → stands self.old g namings i got
             → book.new.held ≡ keep_all H.naming (strings_for g namings got (letter from bytes.now)) book.old.held) }
+        ensures all { OnOk result ((g : Ring) (namings : Namings) (i : ℕ) (got : List Letter) → IsRingOf H.naming g → IsParty g (who from) → stands self.old g namings i got
+            → AreHeld H.naming book.new.held (strings_for g namings got (letter from bytes.now))) }
         ensures keeps { Keeps book.old.held book.new.held }
         ensures grew { (g : Ring) (namings : Namings) (i : ℕ) (got : List Letter) → IsRingOf H.naming g → IsParty g (who from) → stands self.old g namings i got
             → Grew H.naming book.old.held (Contains (strings_for g namings got (letter from bytes.now))) book.new.held }

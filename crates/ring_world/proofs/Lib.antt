@@ -7,5 +7,6 @@ pub mod Looking
 pub mod Order
 pub mod Requests
 pub mod Settling
+pub mod Standing
 pub mod Stepping
 pub mod Telling

@@ -1,7 +1,7 @@
 -- Deliveries one after another.
-use Rattle.std.proofs.Common.{◌≡◌, ℕ, zero, suc, ◌+◌, ◌<◌, ◌≤◌, ◌^◌, Bool, true, false, cond, not, ◌&&◌, ◌||◌, List, [], ◌∷◌, ◌++◌, length, take, find, slice_get, Option, Some, None, refl, sym, ap, ◌∙◌, subst, subst₂, arith, append-nil, append_assoc}
+use Rattle.std.proofs.Common.{◌≡◌, ℕ, zero, suc, ◌+◌, ◌<◌, ◌≤◌, ◌^◌, Bool, true, false, cond, not, ◌&&◌, ◌||◌, List, [], ◌∷◌, ◌++◌, length, take, find, slice_get, Option, Some, None, ⊎_elim, refl, sym, ap, ◌∙◌, subst, subst₂, arith, append-nil, append_assoc}
 use Rattle.std.specs.List.{AllByRecursion as Each}
-use Rattle.std.proofs.lemmas.Bool.{and_from, or_right, eq-eqb}
+use Rattle.std.proofs.lemmas.Bool.{and_from, or_right, eq-eqb, cases_lt}
 use Rattle.std.proofs.lemmas.List.Elements.{filter-append}
 use Rattle.std.proofs.lemmas.List.Folds.{list_any-append}
 use Rattle.std.proofs.lemmas.Option.{slice_get_within}
@@ -12,10 +12,12 @@ use Rattle.ring_model.proofs.Declared.{sent_declared}
 use Rattle.ring_mail.specs.Places.{Place, placed, places, is_done, same_place, delivery, place_of}
 use Rattle.std.proofs.lemmas.List.{length-map}
 use Rattle.block_names.specs.Held.{Held}
-use Rattle.block_names.specs.Growth.{keep_all, Grew, IsClashIn}
+use Rattle.block_names.specs.Growth.{Holds, keep_all, Grew, IsClashIn}
+use Rattle.block_names.specs.Clashes.{AreHeld, NoneClash}
 use Rattle.block_names.specs.declared.fault.NameFault.{NameFault}
 use Rattle.block_names.proofs.Grown.{grew_none, grew_then, clash_wider, keep_append}
-use Rattle.std.proofs.lemmas.List.Elements.{Contains-append_left, Contains-append_right}
+use Rattle.block_names.proofs.Clashed.{held_none, held_then, none_clash}
+use Rattle.std.proofs.lemmas.List.Elements.{All-contains, Contains-append_left, Contains-append_right}
 use Rattle.std.specs.Prelude.{Contains}
 use Rattle.ring_mail.specs.declared.kept.Mail.{Mail}
 use Rattle.ring_mail.specs.Mails.{IsMail}
@@ -207,16 +209,18 @@ few_places m sent done h =
 
 -- nothing was named yet
 pub more_none : (h : List ℕ → List ℕ) (g : Ring) (namings : Namings) (events : List Event) (held : Held) → HoldsMore h g namings events [] held held
-more_none h g namings events held = record { held = refl; grew = grew_none h held (Contains []) }
+more_none h g namings events held = record { held = refl; all = held_none h held; grew = grew_none h held (Contains []) }
 
 -- a delivery more
 more_then : (h : List ℕ → List ℕ) (g : Ring) (namings : Namings) (events late : List Event) (a : Place) (first now new : Held)
     → new ≡ keep_all h (named_by g namings (world g (late ++ events)) (Deliver a.from a.to a.place)) now
     → Grew h now (Contains (named_by g namings (world g (late ++ events)) (Deliver a.from a.to a.place))) new
+    → AreHeld h new (named_by g namings (world g (late ++ events)) (Deliver a.from a.to a.place))
     → HoldsMore h g namings events late first now → HoldsMore h g namings events (Deliver a.from a.to a.place ∷ late) first new
-more_then h g namings events late a first now new is grew m =
+more_then h g namings events late a first now new is grew all m =
     record {
       held = is ∙ ap (keep_all h ys) m.held ∙ sym (keep_append h xs ys first);
+      all = held_then h now new xs ys grew.kept m.all all;
       grew = grew_then h first now new (Contains xs) (Contains ys) (Contains (xs ++ ys)) (λ s e. Contains-append_left xs ys s e) (λ s e. Contains-append_right xs ys s e) m.grew grew;
     }
   where
@@ -238,11 +242,12 @@ pub turned_more : {N : Type 0} (stands : Standing N) (h : List ℕ → List ℕ)
     → Swept stands g namings skipped events w number count
     → new ≡ keep_all h (named_by g namings (world g (settled g skipped events count ++ events)) (Deliver a.from a.to a.place)) now
     → Grew h now (Contains (named_by g namings (world g (settled g skipped events count ++ events)) (Deliver a.from a.to a.place))) new
+    → AreHeld h new (named_by g namings (world g (settled g skipped events count ++ events)) (Deliver a.from a.to a.place))
     → HoldsMore h g namings events (settled g skipped events count) first now → HoldsMore h g namings events (settled g skipped events (count + 1)) first new
-turned_more stands h g namings skipped events w number count a first now new e y swept is grew m =
+turned_more stands h g namings skipped events w number count a first now new e y swept is grew all m =
     subst (λ n. HoldsMore h g namings events (settled g skipped events n) first new) next
     (subst (λ late. HoldsMore h g namings events late first new) (next_settled stands g namings skipped events w number count a e y swept)
-    (more_then h g namings events (settled g skipped events count) a first now new is grew m))
+    (more_then h g namings events (settled g skipped events count) a first now new is grew all m))
   where
     next : suc count ≡ count + 1
     next = omega arith
@@ -289,3 +294,46 @@ pub more_grew : (h : List ℕ → List ℕ) (g : Ring) (namings : Namings) (skip
 more_grew h g namings skipped events n first now low m =
     grew_then h first now now (Contains (named_along g namings events (settled g skipped events n))) (IsNamedIn g namings skipped events) (IsNamedIn g namings skipped events) (λ s there. (n, low, there)) (λ s there. there)
     m.grew (grew_none h now (IsNamedIn g namings skipped events))
+
+-- ---- what is named, however many deliveries are done
+
+named_next : (g : Ring) (namings : Namings) (events late : List Event) (o : Option Place) (s : List ℕ) → Contains (named_along g namings events late) s → Contains (named_along g namings events (then_deliver o late)) s
+named_next g namings events late None s there = there
+named_next g namings events late (Some a) s there = Contains-append_left (named_along g namings events late) (named_by g namings (world g (late ++ events)) (Deliver a.from a.to a.place)) s there
+
+-- more deliveries name more
+named_more : (g : Ring) (namings : Namings) (skipped : Place → Bool) (events : List Event) (m n : ℕ) (s : List ℕ) → m ≤ n
+    → Contains (named_along g namings events (settled g skipped events m)) s → Contains (named_along g namings events (settled g skipped events n)) s
+named_more g namings skipped events m zero s low there =
+    let none : m ≡ 0 = omega (arith, low) in subst (λ k. Contains (named_along g namings events (settled g skipped events k)) s) none there
+named_more g namings skipped events m (suc n) s low there =
+    ⊎_elim
+    (λ less. named_next g namings events (settled g skipped events n) (pending g skipped (settled g skipped events n ++ events)) s
+    (named_more g namings skipped events m n s (let below : m ≤ n = omega (arith, less) in below) there))
+    (λ more. let same : m ≡ suc n = omega (arith, low, more) in subst (λ k. Contains (named_along g namings events (settled g skipped events k)) s) same there)
+    (cases_lt m (suc n))
+
+-- once nothing is pending no delivery is left
+settled_stays : (g : Ring) (skipped : Place → Bool) (events : List Event) (n m : ℕ) → pending g skipped (settled g skipped events n ++ events) ≡ None → n ≤ m → settled g skipped events m ≡ settled g skipped events n
+settled_stays g skipped events n zero none low = let same : 0 ≡ n = omega (arith, low) in ap (settled g skipped events) same
+settled_stays g skipped events n (suc m) none low =
+    ⊎_elim
+    (λ less.
+    let before : settled g skipped events m ≡ settled g skipped events n = settled_stays g skipped events n m none (let below : n ≤ m = omega (arith, less) in below) in
+    ap (λ late. then_deliver (pending g skipped (late ++ events)) late) before ∙ ap (λ o. then_deliver o (settled g skipped events n)) none)
+    (λ more. let same : suc m ≡ n = omega (arith, low, more) in ap (settled g skipped events) same)
+    (cases_lt n (suc m))
+
+-- what any number of deliveries names is named by those of a settle
+all_named : (g : Ring) (namings : Namings) (skipped : Place → Bool) (events : List Event) (n : ℕ) (s : List ℕ) → pending g skipped (settled g skipped events n ++ events) ≡ None
+    → IsNamedIn g namings skipped events s → Contains (named_along g namings events (settled g skipped events n)) s
+all_named g namings skipped events n s none named =
+    ⊎_elim (λ less. named_more g namings skipped events named.0 n s (let below : named.0 ≤ n = omega (arith, less) in below) named.2)
+    (λ more. subst (λ late. Contains (named_along g namings events late) s) (settled_stays g skipped events n named.0 none more) named.2) (cases_lt named.0 n)
+
+-- a settle that answers no fault names no two different strings of one name
+pub settled_apart : (h : List ℕ → List ℕ) (g : Ring) (namings : Namings) (skipped : Place → Bool) (events : List Event) (n : ℕ) (first now : Held) → pending g skipped (settled g skipped events n ++ events) ≡ None
+    → HoldsMore h g namings events (settled g skipped events n) first now → NoneClash h first (IsNamedIn g namings skipped events)
+settled_apart h g namings skipped events n first now none m =
+    none_clash h first now (IsNamedIn g namings skipped events) m.grew.kept
+    (λ s named. All-contains (Holds h now) (named_along g namings events (settled g skipped events n)) s m.all (all_named g namings skipped events n s none named))

@@ -3,6 +3,7 @@ use Rattle.std.specs.Prelude.{◌≡◌, ℕ, Bool, false, List, take, ◌++◌,
 use Rattle.std.specs.List.{AllByRecursion as Each}
 use Rattle.block_names.specs.Held.{Held}
 use Rattle.block_names.specs.Growth.{keep_all, Grew}
+use Rattle.block_names.specs.Clashes.{AreHeld}
 use Rattle.ring_model.specs.Messages.{Ring}
 use Rattle.ring_model.specs.World.{Event, world}
 use Rattle.ring_node.specs.Naming.{Namings}
@@ -12,9 +13,10 @@ use Rattle.ring_world.specs.Standing.{Standing}
 use Rattle.ring_world.specs.Deliveries.{deliveries, is_due, pending, settled, named_along}
 use Rattle.ring_world.specs.Worlds.{WorldStands}
 
--- what is held was held at first, or was named by these deliveries
+-- what is held was held at first, or was named by these deliveries, whose strings are all held
 pub record HoldsMore (h : List ℕ → List ℕ) (g : Ring) (namings : Namings) (events late : List Event) (first now : Held) : Type 0 where
   pub held : now ≡ keep_all h (named_along g namings events late) first
+  pub all : AreHeld h now (named_along g namings events late)
   pub grew : Grew h first (Contains (named_along g namings events late)) now
 
 -- these deliveries were made, and nothing before this number is due

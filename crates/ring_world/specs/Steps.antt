@@ -2,6 +2,7 @@
 use Rattle.std.specs.Prelude.{◌≡◌, ◌≢◌, ℕ, ◌+◌, ◌-◌, ◌<◌, ◌≤◌, List, length, slice_index_or, slice_get, Bool, true, false, cond, is_some, Some, filter, ◌==◌, Result, Ok, Err, IsTrue}
 use Rattle.std.specs.FinMap as map
 use Rattle.block_names.specs.Held.{Held}
+use Rattle.block_names.specs.Clashes.{AreClash}
 use Rattle.block_names.specs.declared.fault.StepFault.{StepFault}
 use Rattle.block_names.specs.declared.fault.StepFault.TheVariants.{Clash, Ended, Memory}
 use Rattle.guarded_update.specs.Fitting.{update_fits}
@@ -52,6 +53,12 @@ abbrev pub IsStepClash : (List ℕ → List ℕ) → Held → (List ℕ → Type
 IsStepClash h held Of (Clash old new) = (map.get held (h new) ≡ Some old) × (old ≢ new) × Of new
 IsStepClash h held Of Ended = Unit {0}
 IsStepClash h held Of Memory = Unit {0}
+
+-- it is of two different strings of one name, among those that were held before and those of a kind
+abbrev pub IsStepClashAmong : (List ℕ → List ℕ) → Held → (List ℕ → Type 0) → StepFault → Type 0
+IsStepClashAmong h held Of (Clash old new) = AreClash h held Of old new
+IsStepClashAmong h held Of Ended = Unit {0}
+IsStepClashAmong h held Of Memory = Unit {0}
 
 -- the requests of a client are numbered 1, 2, and so on
 abbrev pub InOrder : Ring → List (List ℕ) → Type 0

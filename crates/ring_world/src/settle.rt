@@ -2,6 +2,7 @@
 ghost use Rattle.std.specs.Prelude.{◌≡◌, ℕ, List, [], ◌++◌, slice_get, Some, ◌+◌, ◌<◌, ◌≤◌, ◌^◌, OnOk, IfOk, IfErr, Contains, true, false};
 ghost use Rattle.block_names.specs.Held.{Held};
 ghost use Rattle.block_names.specs.Growth.{keep_all, Grew, IsClashIn};
+ghost use Rattle.block_names.specs.Clashes.{AreHeld, NoneClash};
 ghost use Rattle.cow_tree.specs.Laws.{Keeps};
 ghost use Rattle.ring_model.specs.Messages.{Ring, FewFaulty, Packet, Member as member};
 ghost use Rattle.ring_model.specs.World as model;
@@ -17,7 +18,7 @@ ghost use Rattle.ring_mail.specs.Mails.{IsMail};
 ghost use Rattle.ring_world.specs.Skipping.{is_skipped};
 ghost use Rattle.ring_world.specs.Deliveries.{is_due, settled, named_along, IsNamedIn};
 ghost use Rattle.ring_world.specs.Settles.{HoldsMore, Swept, Settles};
-ghost use Rattle.ring_world.specs.Steps.{Ends, IsStepClash};
+ghost use Rattle.ring_world.specs.Steps.{Ends, IsStepClash, IsStepClashAmong};
 ghost use Rattle.ring_world.specs.Worlds.{IsKnown, ForEvents};
 
 use crate::skips::Skips;
@@ -115,8 +116,12 @@ impl<N: Node> World<N> {
         ensures spent { self.old.ended ≡ true → book.new ≡ book.old }
         ensures held { IfOk result (λ n. ForEvents N.stands H.naming self.old (λ g namings events.
             book.new.held ≡ keep_all H.naming (named_along g namings events (settled g (is_skipped skips.now) events n)) book.old.held)) }
+        ensures all { IfOk result (λ n. ForEvents N.stands H.naming self.old (λ g namings events.
+            AreHeld H.naming book.new.held (named_along g namings events (settled g (is_skipped skips.now) events n)))) }
+        ensures apart { OnOk result (ForEvents N.stands H.naming self.old (λ g namings events. NoneClash H.naming book.old.held (IsNamedIn g namings (is_skipped skips.now) events))) }
         ensures grew { ForEvents N.stands H.naming self.old (λ g namings events. Grew H.naming book.old.held (IsNamedIn g namings (is_skipped skips.now) events) book.new.held) }
         ensures fault { IfErr result (λ fault. ForEvents N.stands H.naming self.old (λ g namings events. IsStepClash H.naming book.new.held (IsNamedIn g namings (is_skipped skips.now) events) fault)) }
+        ensures clash { IfErr result (λ fault. ForEvents N.stands H.naming self.old (λ g namings events. IsStepClashAmong H.naming book.old.held (IsNamedIn g namings (is_skipped skips.now) events) fault)) }
     {
         all_executed();
         if self.ended {

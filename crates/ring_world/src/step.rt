@@ -1,13 +1,14 @@
 // The events of a world, and its end.
 ghost use Rattle.std.specs.Prelude.{◌≡◌, ℕ, List, ◌∷◌, [], length, Contains, OnOk, IfOk, IfErr, true, false, Result};
 ghost use Rattle.block_names.specs.Growth.{keep_all, Grew};
+ghost use Rattle.block_names.specs.Clashes.{AreHeld, NoneClash};
 ghost use Rattle.block_names.specs.Faults.{step_fault};
 ghost use Rattle.cow_tree.specs.Laws.{Keeps};
 ghost use Rattle.ring_model.specs.Messages.{FewFaulty, Packet};
 ghost use Rattle.ring_model.specs.World.{world, chosen};
 ghost use Rattle.ring_model.specs.Laws.{IsPrefix, NoClash};
 ghost use Rattle.client_core.specs.Naming.{Names};
-ghost use Rattle.ring_world.specs.Steps.{IsStep, IsStepClash, Ends, is_there, said_by, said_of};
+ghost use Rattle.ring_world.specs.Steps.{IsStep, IsStepClash, IsStepClashAmong, Ends, is_there, said_by, said_of};
 ghost use Rattle.ring_world.specs.Worlds.{WorldStands, IsKnown, ForStep, event_of, strings_of};
 
 use crate::event::Event;
@@ -65,7 +66,9 @@ impl<N: Node> World<N> {
 
     /// Does the next event. The caller keeps the list of events legal: parties are declared, a forger is
     /// faulty, and a resubmitted number was submitted. `Ended` is answered exactly where an earlier call
-    /// answered another fault, and then nothing changes; after any other fault the world has ended.
+    /// answered another fault, and then nothing changes; after any other fault the world has ended. `Clash`
+    /// is answered only where two different strings of one name are among those that the book held and
+    /// those that the event names, and where two are, `Ok` is not.
     pub fn step<H: Hash160 + Drop>(
         &mut self,
         book: &mut Book<H>,
@@ -82,8 +85,11 @@ impl<N: Node> World<N> {
         ensures keeps { Keeps book.old.held book.new.held }
         ensures spent { self.old.ended ≡ true → book.new ≡ book.old }
         ensures held { OnOk result (ForStep N.stands H.naming self.old event (λ g namings events. book.new.held ≡ keep_all H.naming (strings_of g namings (world g events) event) book.old.held)) }
+        ensures all { OnOk result (ForStep N.stands H.naming self.old event (λ g namings events. AreHeld H.naming book.new.held (strings_of g namings (world g events) event))) }
+        ensures apart { OnOk result (ForStep N.stands H.naming self.old event (λ g namings events. NoneClash H.naming book.old.held (Contains (strings_of g namings (world g events) event)))) }
         ensures grew { ForStep N.stands H.naming self.old event (λ g namings events. Grew H.naming book.old.held (Contains (strings_of g namings (world g events) event)) book.new.held) }
         ensures fault { IfErr result (λ fault. ForStep N.stands H.naming self.old event (λ g namings events. IsStepClash H.naming book.new.held (Contains (strings_of g namings (world g events) event)) fault)) }
+        ensures clash { IfErr result (λ fault. ForStep N.stands H.naming self.old event (λ g namings events. IsStepClashAmong H.naming book.old.held (Contains (strings_of g namings (world g events) event)) fault)) }
     {
         grows();
         if self.ended {

@@ -129,7 +129,7 @@ pub count_added : (h : List ℕ → List ℕ) (block : ℕ) (versions : List (Li
 count_added h block versions k added e content older up =
     let a = added_up_to h block versions k added e in
     let same = same_versions a.content content a.older older (sym a.is ∙ up) in
-    ap length a.added ∙ length-map (node h) (new_strings h block a.content a.older) ∙ ap₂ (λ c vs. length (new_strings h block c vs)) same.0 same.1
+    ap length a.added ∙ length-map (new_strings h block a.content a.older) (node h) ∙ ap₂ (λ c vs. length (new_strings h block c vs)) same.0 same.1
 
 pub none_added : (h : List ℕ → List ℕ) (block : ℕ) (versions : List (List ℕ)) (k count : ℕ) → added_at h block versions k ≡ None
     → (content : List ℕ) (older : List (List ℕ)) → model.up_to k versions ≡ content ∷ older → count ≡ length (new_strings h block content older)

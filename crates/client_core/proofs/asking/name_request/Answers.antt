@@ -4,7 +4,7 @@ use Rattle.block_names.specs.Growth.{Holds}
 use Rattle.block_names.proofs.Grown.{now_held}
 use Rattle.tree_format.specs.Strings.{label_string}
 use Rattle.guarded_update.specs.Spelling.{request_string}
-use Rattle.client_core.proofs.Calls.{names_err, grew_first, grew_both, clash_first, clash_second, both_held}
+use Rattle.client_core.proofs.Calls.{names_err, grew_first, grew_both, clash_first, clash_second, both_held, both_known}
 use Rattle.client_core.proofs.asking.name_request.Goals as goal
 
 pub returns-in_err-name-clause-names : goal.returns-in_err-name-clause-names
@@ -39,4 +39,5 @@ returns-clause-names g c =
     let text = c.as_slice-2.ensures ∙ c.in_ok-text.ensures.string in (
       both_held h c.args.book.now.held c.name.new.self.held c.name-2.new.self.held c.as_slice.result.now c.as_slice-2.result.now (label_string c.args.request.now.label) (request_string c.args.request.now) label text c.in_ok-name.ensures.held c.in_ok-name-2.ensures.held,
       grew_both h c.args.book.now.held c.name.new.self.held c.name-2.new.self.held c.as_slice.result.now c.as_slice-2.result.now (label_string c.args.request.now.label) (request_string c.args.request.now) label text c.name.ensures.grew c.name-2.ensures.grew,
+      both_known h c.args.book.now.held c.name.new.self.held c.name-2.new.self.held c.as_slice.result.now c.as_slice-2.result.now (label_string c.args.request.now.label) (request_string c.args.request.now) label text c.in_ok-name.ensures.held c.in_ok-name-2.ensures.held c.name-2.ensures.grew,
     )

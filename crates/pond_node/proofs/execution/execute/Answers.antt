@@ -8,7 +8,7 @@ use Rattle.fold_model.specs.Folds.{requests_of, mark_of}
 use Rattle.pond_node.specs.Answers.{reply_from}
 use Rattle.pond_node.specs.Standing.{AreOf, AddsOne}
 use Rattle.pond_node.proofs.Steps.{one_done, answers_are, told_fits, adds_one}
-use Rattle.pond_node.proofs.Named.{spelled_by, version_grew, version_clash, label_grew, label_clash, all_held}
+use Rattle.pond_node.proofs.Named.{spelled_by, version_grew, version_clash, label_grew, label_clash, all_held, all_known}
 use Rattle.pond_node.proofs.execution.execute.Goals as goal
 
 pub returns-in-Err-clause-grew : goal.returns-in-Err-clause-grew
@@ -82,6 +82,12 @@ returns-clause-held g c = λ block before asked of.
     let read = spelled_by c.args.string.now c.in_ok-request.field-0 c.in-Some.request c.in-Some.is c.in_ok-request.ensures.read in
     all_held g.H.Hash160.naming block before c.args.string.now c.in-Some.request read.0 read.1 c.in-Ok.outcome (c.in-Ok.ensures.outcome block (requests_of before) of.after)
     c.args.book.now.held c.execute.new.book.held c.tell.new.book.held (c.in-Ok.ensures.held block (requests_of before) of.after) c.in-Ok-tell.ensures.held
+
+pub returns-clause-all : goal.returns-clause-all
+returns-clause-all g c = λ block before asked of.
+    let read = spelled_by c.args.string.now c.in_ok-request.field-0 c.in-Some.request c.in-Some.is c.in_ok-request.ensures.read in
+    all_known g.H.Hash160.naming block before c.args.string.now c.in-Some.request read.0 read.1 c.in-Ok.outcome (c.in-Ok.ensures.outcome block (requests_of before) of.after)
+    c.execute.new.book.held c.tell.new.book.held c.tell.ensures.grew.kept (c.in-Ok.ensures.all block (requests_of before) of.after) c.in-Ok-tell.ensures.all
 
 pub returns-clause-grew : goal.returns-clause-grew
 returns-clause-grew g c = λ block before asked of.

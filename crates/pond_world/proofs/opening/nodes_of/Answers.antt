@@ -25,7 +25,7 @@ loop-id-preserved g c =
     one_made h setup c.args.book.now.held c.loop-id.book.held c.new.new.book.held c.loop-id.nodes.items c.push.new.self.items c.in-Ok.node c.loop-id.id (omega (arith, c.requires.least)) c.loop-id.invariant c.in-Ok-push.ensures.items
     (λ manifest. c.in-Ok.ensures.stands _ _ (ring_is_read setup.f setup.clients (is_among setup.faulty) h setup.block manifest) refl refl refl
     (record { outcomes = λ strings. refl; hearts = λ strings. refl; named = λ strings. refl }))
-    c.in-Ok.ensures.known c.in-Ok.ensures.held c.in-Ok.ensures.grew
+    c.in-Ok.ensures.known c.in-Ok.ensures.held c.in-Ok.ensures.all c.in-Ok.ensures.grew
 
 pub returns-clause-count : goal.returns-clause-count
 returns-clause-count g c = omega (arith, c.loop-id.invariant.size)
@@ -38,6 +38,9 @@ returns-clause-known g c = c.loop-id.invariant.known
 
 pub returns-clause-held : goal.returns-clause-held
 returns-clause-held g c = c.loop-id.invariant.held (omega arith)
+
+pub returns-clause-all : goal.returns-clause-all
+returns-clause-all g c = c.loop-id.invariant.all (omega arith)
 
 pub returns-clause-grew : goal.returns-clause-grew
 returns-clause-grew g c = c.loop-id.invariant.grew

@@ -1,4 +1,6 @@
-use Rattle.std.proofs.Common.{refl, sym, ◌∙◌, ◌+◌, ◌*◌, arith}
+use Rattle.std.proofs.Common.{[], Contains, refl, sym, ◌∙◌, ◌+◌, ◌*◌, arith}
+use Rattle.block_names.proofs.Clashed.{named_apart, clash_among}
+use Rattle.object_model.specs.Trees.{version_strings}
 use Rattle.fold_model.specs.Folds.{namings_by}
 use Rattle.pond_node.specs.Standing as node
 use Rattle.pond_world.specs.Setups.{ring_by}
@@ -27,3 +29,11 @@ returns-in-Ok-new-clause-stands g c = λ manifest.
 pub returns-in-Ok-new-clause-known : goal.returns-in-Ok-new-clause-known
 returns-in-Ok-new-clause-known g c =
     c.in-Ok-new.ensures.known g.H.Hash160.naming c.nodes_of.new.book.held (each_at (node.IsKnown g.H.Hash160.naming c.nodes_of.new.book.held) c.in-Ok.nodes.items c.in-Ok.ensures.known)
+
+pub returns-in-Ok-new-clause-apart : goal.returns-in-Ok-new-clause-apart
+returns-in-Ok-new-clause-apart g c =
+    named_apart g.H.Hash160.naming c.args.book.now.held c.nodes_of.new.book.held (version_strings g.H.Hash160.naming c.args.setup.now.block [] []) c.nodes_of.ensures.grew c.in-Ok.ensures.all
+
+pub returns-in-Err-clause-clash : goal.returns-in-Err-clause-clash
+returns-in-Err-clause-clash g c =
+    clash_among g.H.Hash160.naming c.args.book.now.held c.nodes_of.new.book.held (Contains (version_strings g.H.Hash160.naming c.args.setup.now.block [] [])) c.in-Err.fault c.nodes_of.ensures.grew c.in-Err.ensures.fault

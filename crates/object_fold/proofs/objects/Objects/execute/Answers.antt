@@ -1,6 +1,7 @@
-use Rattle.std.proofs.Common.{◌≡◌, ap, sym, ◌∙◌, refl}
-use Rattle.std.specs.Prelude.{Contains}
-use Rattle.block_names.specs.Growth.{Grew, IsClashIn, keep_all}
+use Rattle.std.proofs.Common.{◌≡◌, ap, sym, ◌∙◌, refl, subst}
+use Rattle.std.specs.Prelude.{All, Contains}
+use Rattle.std.proofs.lemmas.List.Elements.{All-nil}
+use Rattle.block_names.specs.Growth.{Grew, Holds, IsClashIn, keep_all}
 use Rattle.tree_format.specs.declared.root.Root.{Root}
 use Rattle.object_model.specs.Folds.{versions_after}
 use Rattle.ring_message.specs.declared.outcome.Outcome.TheVariants as told
@@ -44,6 +45,16 @@ returns-in-Err-clause-held g c = λ block earlier after.
     sym (ap (λ e. keep_all h (strings_of_effect h block e versions) c.args.book.now.held)
     (refused_effect h c.args.self.now _ c.self.view_is c.args.request.now c.as_slice-clauses.result.now c.as_slice-clauses.ensures c.newest.result.now c.newest.result.now c.newest.ensures c.newest.ensures c.if-has.ensures
     (refusal_of c.in-Err.refused) (λ b content older stands. c.in-Err.ensures h b content older stands) block earlier after))
+
+pub returns-in-Err-clause-all : goal.returns-in-Err-clause-all
+returns-in-Err-clause-all g c = λ block earlier after.
+    let h = g.H.Hash160.naming in
+    let versions = versions_after h block c.args.request.now.label earlier in
+    subst (λ e. All (Holds h c.args.book.now.held) (strings_of_effect h block e versions))
+    (sym
+    (refused_effect h c.args.self.now _ c.self.view_is c.args.request.now c.as_slice-clauses.result.now c.as_slice-clauses.ensures c.newest.result.now c.newest.result.now c.newest.ensures c.newest.ensures c.if-has.ensures
+    (refusal_of c.in-Err.refused) (λ b content older stands. c.in-Err.ensures h b content older stands) block earlier after))
+    (All-nil (Holds h c.args.book.now.held))
 
 -- ---- the next version of the newest tree
 
@@ -145,6 +156,13 @@ returns-clause-held g c =
     next_strings h c.args.self.now _ c.self.view_is c.args.request.now c.as_slice-clauses.result.now c.as_slice-clauses.ensures c.newest.result.now c.newest-newest.result.now c.newest.ensures c.newest-newest.ensures c.if-has.ensures
     c.in-Ok.actions.now (λ b content older stands. c.in-Ok.ensures h b content older stands)
     (λ strings. c.apply.new.book.held ≡ keep_all h strings c.args.book.now.held) c.in-Ok-apply.ensures.held
+
+pub returns-clause-all : goal.returns-clause-all
+returns-clause-all g c =
+    let h = g.H.Hash160.naming in
+    next_strings h c.args.self.now _ c.self.view_is c.args.request.now c.as_slice-clauses.result.now c.as_slice-clauses.ensures c.newest.result.now c.newest-newest.result.now c.newest.ensures c.newest-newest.ensures c.if-has.ensures
+    c.in-Ok.actions.now (λ b content older stands. c.in-Ok.ensures h b content older stands)
+    (All (Holds h c.apply.new.book.held)) c.in-Ok-apply.ensures.all
 
 pub returns-clause-grew : goal.returns-clause-grew
 returns-clause-grew g c =

@@ -1,5 +1,5 @@
 use Rattle.std.proofs.Common.{arith}
-use Rattle.pond_node.proofs.Running.{running_starts, running_on, slot_grew, slot_clash, all_done, all_sent, all_kept}
+use Rattle.pond_node.proofs.Running.{running_starts, running_on, slot_grew, slot_clash, all_done, all_sent, all_kept, all_known}
 use Rattle.pond_node.proofs.node.Node.execute_new.Goals as goal
 
 pub loop-place-init : goal.loop-place-init
@@ -25,7 +25,7 @@ pub loop-place-preserved : goal.loop-place-preserved
 loop-place-preserved g c =
     running_on g.H.Hash160.naming c.args.self.now c.args.book.now.held c.args.out.now.items c.loop-place.place c.loop-place.self c.loop-place.book.held c.loop-place.out.items c.loop-place.invariant
     c.len-first.result c.executed-last.result c.len-first.ensures c.executed-last.ensures c.loop-place.auto.place c.loop-place-test.true _ (omega arith) c.execute_next.new.self c.execute_next.new.book.held c.execute_next.new.out.items
-    c.in-Ok.ensures.done c.in-Ok.ensures.sent c.in-Ok.ensures.seats c.in-Ok.ensures.known c.in-Ok.ensures.one c.in-Ok.ensures.held c.execute_next.ensures.grew c.execute_next.ensures.keeps
+    c.in-Ok.ensures.done c.in-Ok.ensures.sent c.in-Ok.ensures.seats c.in-Ok.ensures.known c.in-Ok.ensures.one c.in-Ok.ensures.held c.in-Ok.ensures.all c.execute_next.ensures.grew c.execute_next.ensures.keeps
 
 pub returns-clause-done : goal.returns-clause-done
 returns-clause-done g c =
@@ -46,6 +46,11 @@ returns-clause-known g c = record { objects_known = c.loop-place.invariant.known
 pub returns-clause-held : goal.returns-clause-held
 returns-clause-held g c =
     all_kept g.H.Hash160.naming c.args.self.now c.args.book.now.held c.args.out.now.items c.loop-place.place c.loop-place.self c.loop-place.book.held c.loop-place.out.items c.loop-place.invariant
+    c.len-first.result c.executed-last.result c.len-first.ensures c.executed-last.ensures c.loop-place.auto.place (omega (arith, c.loop-place-test.false)) c.loop-place.auto.place-end
+
+pub returns-clause-all : goal.returns-clause-all
+returns-clause-all g c =
+    all_known g.H.Hash160.naming c.args.self.now c.args.book.now.held c.args.out.now.items c.loop-place.place c.loop-place.self c.loop-place.book.held c.loop-place.out.items c.loop-place.invariant
     c.len-first.result c.executed-last.result c.len-first.ensures c.executed-last.ensures c.loop-place.auto.place (omega (arith, c.loop-place-test.false)) c.loop-place.auto.place-end
 
 pub returns-clause-grew : goal.returns-clause-grew

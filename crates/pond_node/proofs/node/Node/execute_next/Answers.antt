@@ -1,6 +1,7 @@
 use Rattle.std.proofs.Common.{◌-◌, ◌++◌, map, take, Contains, ap, subst, ◌∙◌}
 use Rattle.std.specs.Option.{option_copied}
 use Rattle.block_names.specs.Growth.{keep_all, Grew, IsClashIn}
+use Rattle.block_names.specs.Clashes.{AreHeld}
 use Rattle.ring_model.specs.Member.{answers, executed}
 use Rattle.message_model.specs.Meaning.{packet}
 use Rattle.pond_node.specs.Standing.{AreOf}
@@ -17,6 +18,10 @@ returns-in_default-clause-sent g c = λ g' namings i got low high st ring.
 
 pub returns-in_default-clause-held : goal.returns-in_default-clause-held
 returns-in_default-clause-held g c = λ g' namings i got low high st.
+    absurd (has_request g.H.Hash160.naming c.args.self.now g' namings i got (take (c.args.seq.0 - 1) (executed g' got)) c.args.seq.0 (option_copied c.request.result) st low high c.request.ensures (ap option_copied c.in_default.is))
+
+pub returns-in_default-clause-all : goal.returns-in_default-clause-all
+returns-in_default-clause-all g c = λ g' namings i got low high st.
     absurd (has_request g.H.Hash160.naming c.args.self.now g' namings i got (take (c.args.seq.0 - 1) (executed g' got)) c.args.seq.0 (option_copied c.request.result) st low high c.request.ensures (ap option_copied c.in_default.is))
 
 pub returns-in-Ok-clause-done : goal.returns-in-Ok-clause-done
@@ -57,6 +62,17 @@ returns-in-Ok-clause-held g c = λ g' namings i got low high st.
     let asked = is_asked h node g' namings i got slot string (option_copied c.request.result) st c.request.ensures some in
     c.in-Ok.ensures.held node.block (take (slot - 1) (executed g' got)) asked st.done_is
     ∙ ap (λ ss. keep_all h ss c.args.book.now.held) (is_named h node g' namings i got slot string (option_copied c.request.result) st c.request.ensures some)
+
+pub returns-in-Ok-clause-all : goal.returns-in-Ok-clause-all
+returns-in-Ok-clause-all g c = λ g' namings i got low high st.
+    let h = g.H.Hash160.naming in
+    let node = c.args.self.now in
+    let slot = c.args.seq.0 in
+    let string = c.in-Some.string.now in
+    let some = ap option_copied c.in-Some.is in
+    let asked = is_asked h node g' namings i got slot string (option_copied c.request.result) st c.request.ensures some in
+    subst (AreHeld h c.execute.new.book.held) (is_named h node g' namings i got slot string (option_copied c.request.result) st c.request.ensures some)
+    (c.in-Ok.ensures.all node.block (take (slot - 1) (executed g' got)) asked st.done_is)
 
 pub returns-in-Ok-clause-grew : goal.returns-in-Ok-clause-grew
 returns-in-Ok-clause-grew g c = λ g' namings i got low high st.

@@ -4,7 +4,7 @@ use Rattle.ring_model.specs.Member.{executed}
 use Rattle.ring_model.proofs.Stays.{executed_grows}
 use Rattle.message_model.specs.Meaning.{letter, packet}
 use Rattle.pond_node.proofs.Letters.{bytes_asked}
-use Rattle.pond_node.proofs.Caused.{by_book, by_ring, members_seated, all_caused, all_held, asked_grew, all_grew, asked_clash, done_clash}
+use Rattle.pond_node.proofs.Caused.{by_book, by_ring, members_seated, all_caused, all_held, all_known, asked_grew, all_grew, asked_clash, done_clash}
 use Rattle.pond_node.proofs.node.Node.take.Goals as goal
 
 pub returns-in-Err-clause-grew : goal.returns-in-Err-clause-grew
@@ -51,6 +51,16 @@ returns-in-Ok-execute_new-clause-held g c = λ g' namings i got ring party st.
     let at = by_book h c.args.self.now g' namings i got ring st in
     all_held h g' namings got l c.args.book.now.held c.take.new.book.held c.execute_new.new.book.held c.in-Ok.ensures.held
     (c.in-Ok-execute_new.ensures.held g' namings i (l ∷ got) (executed g' got)
+    (record { member_stands = c.in-Ok.ensures.stands g' i got ring party st.member_stands; clients_are = at.clients_are; folds = at.folds; asked = (bytes_asked c.args.bytes.now, st.asked); done_is = at.done_is })
+    (executed_grows g' l got))
+
+pub returns-in-Ok-execute_new-clause-all : goal.returns-in-Ok-execute_new-clause-all
+returns-in-Ok-execute_new-clause-all g c = λ g' namings i got ring party st.
+    let h = g.H.Hash160.naming in
+    let l = letter c.args.from c.args.bytes.now in
+    let at = by_book h c.args.self.now g' namings i got ring st in
+    all_known h g' namings got l c.take.new.book.held c.execute_new.new.book.held c.execute_new.ensures.keeps c.in-Ok.ensures.all
+    (c.in-Ok-execute_new.ensures.all g' namings i (l ∷ got) (executed g' got)
     (record { member_stands = c.in-Ok.ensures.stands g' i got ring party st.member_stands; clients_are = at.clients_are; folds = at.folds; asked = (bytes_asked c.args.bytes.now, st.asked); done_is = at.done_is })
     (executed_grows g' l got))
 

@@ -1,5 +1,7 @@
 use Rattle.std.proofs.Common.{◌≡◌, ◌∷◌, [], List, ℕ, Option, Some, None, IfErr, IfOk, IfSome, OnOk, Contains, map, flat_map, ap, sym, subst, ◌∙◌, ⊎_elim, refl}
 use Rattle.block_names.specs.Growth.{Grew, IsClashIn, keep_all}
+use Rattle.block_names.specs.Clashes.{AreHeld}
+use Rattle.block_names.proofs.Clashed.{held_none}
 use Rattle.ring_message.specs.declared.message.Message.{Message as Spelled}
 use Rattle.ring_message.specs.Grammar.{IsMessage}
 use Rattle.ring_message.specs.Spelling.{message_string}
@@ -50,6 +52,11 @@ returns-in-None-clause-held g c =
     let nothing = foreign c.args.bytes.now c.in_ok-message.field-0 c.in-None.is c.in_ok-message.ensures.spelled in
     sym (ap (λ ss. keep_all g.H.Hash160.naming ss c.args.book.now.held) (none_asked (who c.args.from) (meaning c.args.bytes.now) nothing))
 
+pub returns-in-None-clause-all : goal.returns-in-None-clause-all
+returns-in-None-clause-all g c =
+    let nothing = foreign c.args.bytes.now c.in_ok-message.field-0 c.in-None.is c.in_ok-message.ensures.spelled in
+    subst (AreHeld g.H.Hash160.naming c.args.book.now.held) (sym (none_asked (who c.args.from) (meaning c.args.bytes.now) nothing)) (held_none g.H.Hash160.naming c.args.book.now.held)
+
 pub returns-in-Some-clause-stands : goal.returns-in-Some-clause-stands
 returns-in-Some-clause-stands g c =
     subst (λ (x : Message). OnOk c.answer.result ((g' : Ring) (i : ℕ) (got : List Letter) → IsRingOf g.H.Hash160.naming g' → IsParty g' (who c.args.from) → StandsFor g' i c.args.self.now got
@@ -66,6 +73,11 @@ pub returns-in-Some-clause-held : goal.returns-in-Some-clause-held
 returns-in-Some-clause-held g c =
     subst (λ (x : Message). OnOk c.answer.result (c.answer.new.book.held ≡ keep_all g.H.Hash160.naming (asked_in (who c.args.from) x) c.args.book.now.held))
     (sym (meant c.args.bytes.now c.in_ok-message.field-0 c.in-Some.message c.in-Some.is c.in_ok-message.ensures.read)) c.answer.ensures.held
+
+pub returns-in-Some-clause-all : goal.returns-in-Some-clause-all
+returns-in-Some-clause-all g c =
+    subst (λ (x : Message). OnOk c.answer.result (AreHeld g.H.Hash160.naming c.answer.new.book.held (asked_in (who c.args.from) x)))
+    (sym (meant c.args.bytes.now c.in_ok-message.field-0 c.in-Some.message c.in-Some.is c.in_ok-message.ensures.read)) c.answer.ensures.all
 
 pub returns-in-Some-clause-grew : goal.returns-in-Some-clause-grew
 returns-in-Some-clause-grew g c =

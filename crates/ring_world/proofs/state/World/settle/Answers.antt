@@ -1,10 +1,10 @@
 use Rattle.std.proofs.Common.{◌++◌, sym, subst}
 use Rattle.ring_world.specs.Skipping.{is_skipped}
 use Rattle.ring_world.specs.Deliveries.{settled, IsNamedIn}
-use Rattle.ring_world.specs.Steps.{IsStepClash}
-use Rattle.ring_world.proofs.Calls.{step_clash}
+use Rattle.ring_world.specs.Steps.{IsStepClash, IsStepClashAmong}
+use Rattle.ring_world.proofs.Calls.{step_clash, step_among}
 use Rattle.ring_world.proofs.Delivered.{all_delivered, none_skipped}
-use Rattle.ring_world.proofs.Settling.{more_grew}
+use Rattle.ring_world.proofs.Settling.{more_grew, settled_apart}
 use Rattle.ring_world.proofs.state.World.settle.Goals as goal
 
 pub returns-in-Ok-clause-delivered : goal.returns-in-Ok-clause-delivered
@@ -31,3 +31,18 @@ pub returns-in-Err-clause-fault : goal.returns-in-Err-clause-fault
 returns-in-Err-clause-fault g c = λ r namings events ring h.
     subst (IsStepClash g.H.Hash160.naming c.sweep.new.book.held (IsNamedIn r namings (is_skipped c.args.skips.now) events)) (sym c.end.ensures.fault)
     (step_clash g.H.Hash160.naming c.sweep.new.book.held (IsNamedIn r namings (is_skipped c.args.skips.now) events) c.in-Err.fault (c.in-Err.ensures.fault r namings events ring h).1)
+
+pub returns-in-Ok-clause-all : goal.returns-in-Ok-clause-all
+returns-in-Ok-clause-all g c = λ r namings events ring h. (c.in-Ok.ensures.more r namings events ring h).all
+
+pub returns-in-Ok-clause-apart : goal.returns-in-Ok-clause-apart
+returns-in-Ok-clause-apart g c = λ r namings events ring h.
+    settled_apart g.H.Hash160.naming r namings (is_skipped c.args.skips.now) events c.in-Ok.count c.args.book.now.held c.sweep.new.book.held (c.in-Ok.ensures.ok r namings events ring h).all
+    (c.in-Ok.ensures.more r namings events ring h)
+
+pub returns-in-Err-clause-clash : goal.returns-in-Err-clause-clash
+returns-in-Err-clause-clash g c = λ r namings events ring h.
+    let failed = c.in-Err.ensures.fault r namings events ring h in
+    let Of = IsNamedIn r namings (is_skipped c.args.skips.now) events in
+    subst (IsStepClashAmong g.H.Hash160.naming c.args.book.now.held Of) (sym c.end.ensures.fault)
+    (step_among g.H.Hash160.naming c.args.book.now.held c.sweep.new.book.held Of c.in-Err.fault failed.0 failed.1)

@@ -32,7 +32,7 @@ returns-clause-more g c = λ r namings events number count first ring e h more.
     let d = place_declared r (settled r (is_skipped c.args.skips.now) events count ++ events) number (place_of c.args.note) h.is.legal e in
     let named = c.in_ok-deliver.ensures.names r namings (world r late) (deliveries r late) ring h.is.is d.0 d.1 in
     turned_more g.N.Node.stands g.H.Hash160.naming r namings (is_skipped c.args.skips.now) events c.args.self.now number count (place_of c.args.note) first c.args.book.now.held c.deliver.new.book.held e
-    (sym (c.is_due.ensures _ _ h.is.is.mail_is (party_seat r (who c.args.note.from) h.is.is.small d.0) (party_seat r (who c.args.note.to) h.is.is.small d.1)) ∙ c.if-not-is_due.false) h named.0 named.1 more
+    (sym (c.is_due.ensures _ _ h.is.is.mail_is (party_seat r (who c.args.note.from) h.is.is.small d.0) (party_seat r (who c.args.note.to) h.is.is.small d.1)) ∙ c.if-not-is_due.false) h named.0 named.1 named.2 more
 
 pub returns-in_err-deliver-clause-fault : goal.returns-in_err-deliver-clause-fault
 returns-in_err-deliver-clause-fault g c =
