@@ -230,7 +230,7 @@ fn submitted(alloc: Global, site: &Site<Sha1Hash>) -> Result<String, Fail> {
     numbered(
         alloc,
         "submitted",
-        u64::from(site.client(client).submitted()),
+        u64::from(site.world().submitted(client)),
     )
 }
 

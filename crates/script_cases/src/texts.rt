@@ -5,16 +5,20 @@ use script_text::{Cause, ParseFault, Script, parse};
 use std::alloc::Global;
 use std::test::Fail;
 
-// How many events a text has, or its line and cause.
-const TEXTS: &[(&str, &str)] = &[
-    // A byte outside the printable ones is refused before all else, in skipped lines too.
+// Texts, and how many events each has, or its line and cause.
+
+// A byte outside the printable ones is refused before all else, in skipped lines too.
+const BYTES: &[(&str, &str)] = &[
     ("frog\x7f\n", "1 byte"),
     ("pond 1\r\nring 0\r\n", "1 byte"),
     ("pond 1\n#\tx\n", "2 byte"),
     ("pond 1\nring 0\n \u{e4}\n", "3 byte"),
     ("pond 1\nring 0\n\u{1f}\n", "3 byte"),
     ("pond 1\nring 0\n# ~ !\n", "0 events"),
-    // A first word that is no verb that is built is refused before the order of lines.
+];
+
+// A first word that is no verb that is built is refused before the order of lines.
+const VERBS: &[(&str, &str)] = &[
     ("frog\n", "1 verb"),
     ("Pond 1\n", "1 verb"),
     ("pond1\n", "1 verb"),
@@ -28,7 +32,10 @@ const TEXTS: &[(&str, &str)] = &[
     ("pond 1\nring 0\narchive all\n", "3 verb"),
     ("pond 1\nring 0\nforges 0 m0 raw 00\n", "3 verb"),
     ("pond 1\nring 0\nsettle#\n", "3 verb"),
-    // A line that may not stand there is refused before its words are counted; the end is a line.
+];
+
+// A line that may not stand there is refused before its words are counted; the end is a line.
+const ORDER: &[(&str, &str)] = &[
     ("", "1 order"),
     ("\n", "2 order"),
     ("ring 0 0\n", "1 order"),
@@ -49,7 +56,10 @@ const TEXTS: &[(&str, &str)] = &[
     ("pond 1\nring 1\nhome 0 member 0\nclients 2\n", "4 order"),
     ("pond 1\nring 1\nmute m0\nhome 0 member 0\n", "4 order"),
     ("pond 1\nring 0\nblock 64\nclients 2\nsettle\n", "1 events"),
-    // Too few or too many words, and wrong fixed words, are refused before words of a wrong class.
+];
+
+// Too few or too many words, and wrong fixed words, are refused before words of a wrong class.
+const WORDS: &[(&str, &str)] = &[
     ("pond\n", "1 words"),
     ("pond 2\n", "1 words"),
     ("pond 01\n", "1 words"),
@@ -84,7 +94,10 @@ const TEXTS: &[(&str, &str)] = &[
     ("pond 1\nring 0\nforge x y order z\n", "3 words"),
     ("pond 1\nring 0\nforge x y raw 0 0 1\n", "3 words"),
     ("pond 1\nring 0\nforge x y raw\n", "3 words"),
-    // An update is refused where a keyword does not fit or its words are wanting, before any class.
+];
+
+// An update is refused where a keyword does not fit or its words are wanting, before any class.
+const UPDATE_WORDS: &[(&str, &str)] = &[
     ("pond 1\nring 0\nsubmit 0\n", "3 words"),
     ("pond 1\nring 0\nsubmit 0 a\n", "3 words"),
     ("pond 1\nring 0\nsubmit x A append\n", "3 words"),
@@ -121,7 +134,10 @@ const TEXTS: &[(&str, &str)] = &[
         "pond 1\nring 0\nsubmit 0 a if block 0 then append 61\n",
         "3 words",
     ),
-    // A word that is not of its class is refused before any range.
+];
+
+// A word that is not of its class is refused before any range.
+const CLASSES: &[(&str, &str)] = &[
     ("pond 1\nring x\n", "2 word"),
     ("pond 1\nring 00\n", "2 word"),
     ("pond 1\nring 4294967296\n", "2 word"),
@@ -170,7 +186,10 @@ const TEXTS: &[(&str, &str)] = &[
         "pond 1\nring 0\nforge 9 c9 heart A 0 00112233445566778899aAbBcCdDeEfF01234567\n",
         "3 word",
     ),
-    // A number out of its range is refused before any size.
+];
+
+// A number out of its range is refused before any size.
+const RANGES: &[(&str, &str)] = &[
     ("pond 1\nring 4\n", "2 range"),
     ("pond 1\nring 4294967295\n", "2 range"),
     ("pond 1\nring 0\nblock 63\n", "3 range"),
@@ -193,7 +212,10 @@ const TEXTS: &[(&str, &str)] = &[
         "pond 1\nring 0\nsubmit 0 a append 61 or append 62 + delete 5 0\n",
         "3 range",
     ),
-    // A member, a party, a message, a slot or a request that is not declared, or not sent, is out of range.
+];
+
+// A member, a party, a message, a slot or a request that is not declared, or not sent, is out of range.
+const DECLARED: &[(&str, &str)] = &[
     ("pond 1\nring 1\nfaulty 4\n", "3 range"),
     ("pond 1\nring 1\nfaulty 3\nfaulty 3\n", "4 range"),
     ("pond 1\nring 1\nhome 1 member 0\n", "3 range"),
@@ -250,7 +272,10 @@ const TEXTS: &[(&str, &str)] = &[
         "pond 1\nring 1\nfaulty 1\nforge 1 c0 heart a 0 00112233445566778899aAbBcCdDeEfF01234567\n",
         "4 range",
     ),
-    // An update of too many actions, guards or bytes is refused.
+];
+
+// An update of too many actions, guards or bytes is refused.
+const SIZES: &[(&str, &str)] = &[
     (
         "pond 1\nring 0\nsubmit 0 a append gen:0:65536 + append 00\n",
         "3 size",
@@ -267,7 +292,10 @@ const TEXTS: &[(&str, &str)] = &[
         "pond 1\nring 0\nsubmit 0 a if block 0 gen:0:8193 then append 61\n",
         "3 size",
     ),
-    // At each limit a text is still a script.
+];
+
+// At each limit a text is still a script.
+const WITHIN_LIMITS: &[(&str, &str)] = &[
     ("pond 1\nring 0\n", "0 events"),
     ("  pond   1 \n ring 0", "0 events"),
     ("pond 1\nring 0\n\n   \n#\n", "0 events"),
@@ -312,7 +340,10 @@ const TEXTS: &[(&str, &str)] = &[
         "pond 1\nring 1\nfaulty 3\nclients 2\nforge 3 c1 heart a 1 00112233445566778899aAbBcCdDeEfF01234567\nforge 3 m3 heart a_1 4294967295 00112233445566778899aabbccddeeff01234567\nshow client 1\n",
         "3 events",
     ),
-    // A text of the first form of scripts is read as it was.
+];
+
+// A text of the first form of scripts is read as it was.
+const FIRST_FORM: &[(&str, &str)] = &[
     ("pond 1\nring 0", "0 events"),
     (
         "pond 1\nring 0\nsubmit 0 a append 6869\nsettle\nread 0 a\n",
@@ -328,7 +359,10 @@ const TEXTS: &[(&str, &str)] = &[
         "pond 1\nring 0\nread 0 _\nsubmit 0 0 append 00\n",
         "2 events",
     ),
-    // More members are declared faulty than the ring tolerates.
+];
+
+// More members are declared faulty than the ring tolerates.
+const FAULTY: &[(&str, &str)] = &[
     ("pond 1\nring 1\nfaulty 0\nfaulty 1\n", "4 full"),
     ("pond 1\nring 0\nfaulty 0\n", "3 full"),
 ];
@@ -558,15 +592,88 @@ fn refusal(alloc: Global, line: u32, cause: Cause) -> Result<String, Fail> {
     Ok(format!(in alloc; "{line} {cause}")?)
 }
 
-#[test]
-fn texts(rt: HostRuntime) -> Result<(), Fail> {
-    for (text, wanted) in TEXTS {
-        assert_eq!(rt;
-            told(rt.alloc(), text.as_bytes())?.as_str(),
-            *wanted,
-            "{text}"
-        );
+// The texts of which something else is told than is wanted, each with what is told of it.
+fn told_otherwise(alloc: Global, rows: &[(&str, &str)]) -> Result<String, Fail> {
+    let mut wrong = String::new(alloc);
+    for (text, wanted) in rows {
+        let told = told(alloc, text.as_bytes())?;
+        if told.as_str() != *wanted {
+            wrong.push_str(text)?;
+            wrong.push_str(told.as_str())?;
+        }
     }
+    Ok(wrong)
+}
+
+#[test]
+fn bytes_come_first(rt: HostRuntime) -> Result<(), Fail> {
+    assert_eq!(rt; told_otherwise(rt.alloc(), BYTES)?.as_str(), "");
+    Ok(())
+}
+
+#[test]
+fn verbs_come_second(rt: HostRuntime) -> Result<(), Fail> {
+    assert_eq!(rt; told_otherwise(rt.alloc(), VERBS)?.as_str(), "");
+    Ok(())
+}
+
+#[test]
+fn order_comes_third(rt: HostRuntime) -> Result<(), Fail> {
+    assert_eq!(rt; told_otherwise(rt.alloc(), ORDER)?.as_str(), "");
+    Ok(())
+}
+
+#[test]
+fn words_come_fourth(rt: HostRuntime) -> Result<(), Fail> {
+    assert_eq!(rt; told_otherwise(rt.alloc(), WORDS)?.as_str(), "");
+    Ok(())
+}
+
+#[test]
+fn updates_have_words_too(rt: HostRuntime) -> Result<(), Fail> {
+    assert_eq!(rt; told_otherwise(rt.alloc(), UPDATE_WORDS)?.as_str(), "");
+    Ok(())
+}
+
+#[test]
+fn classes_come_fifth(rt: HostRuntime) -> Result<(), Fail> {
+    assert_eq!(rt; told_otherwise(rt.alloc(), CLASSES)?.as_str(), "");
+    Ok(())
+}
+
+#[test]
+fn ranges_come_sixth(rt: HostRuntime) -> Result<(), Fail> {
+    assert_eq!(rt; told_otherwise(rt.alloc(), RANGES)?.as_str(), "");
+    Ok(())
+}
+
+#[test]
+fn what_is_declared(rt: HostRuntime) -> Result<(), Fail> {
+    assert_eq!(rt; told_otherwise(rt.alloc(), DECLARED)?.as_str(), "");
+    Ok(())
+}
+
+#[test]
+fn sizes_come_seventh(rt: HostRuntime) -> Result<(), Fail> {
+    assert_eq!(rt; told_otherwise(rt.alloc(), SIZES)?.as_str(), "");
+    Ok(())
+}
+
+#[test]
+fn texts_within_all_limits(rt: HostRuntime) -> Result<(), Fail> {
+    assert_eq!(rt; told_otherwise(rt.alloc(), WITHIN_LIMITS)?.as_str(), "");
+    Ok(())
+}
+
+#[test]
+fn first_form(rt: HostRuntime) -> Result<(), Fail> {
+    assert_eq!(rt; told_otherwise(rt.alloc(), FIRST_FORM)?.as_str(), "");
+    Ok(())
+}
+
+#[test]
+fn too_many_are_faulty(rt: HostRuntime) -> Result<(), Fail> {
+    assert_eq!(rt; told_otherwise(rt.alloc(), FAULTY)?.as_str(), "");
     Ok(())
 }
 
