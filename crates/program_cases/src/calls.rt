@@ -221,9 +221,9 @@ const TAKEN: &[usize] = &[0, 5, 10, 15, 20, 24, 29, 34, 39, 44];
 #[test]
 fn each_take_of_the_sink_fails(rt: HostRuntime) -> Result<(), Fail> {
     let alloc = rt.alloc();
-    let mut take = 0;
+    let mut take: u64 = 0;
     for taken in TAKEN {
-        take += 1;
+        take = take.saturating_add(1);
         let mut sink = MemorySink::new(alloc, 1000, 5, failing(alloc, take)?)?;
         let source = MemorySource::new(READS.to_vec(alloc)?, 16, Vec::new(alloc));
         let answered = answer(&rt, alloc, source, &mut sink)?;
