@@ -7,7 +7,7 @@ use Rattle.ring_model.specs.World.{Event, world, chosen}
 use Rattle.ring_model.specs.Belief.{believed, replied, beating, sealing, heart_of}
 use Rattle.fold_model.specs.Folds.{Manifest, namings_by}
 use Rattle.fold_model.specs.Laws.{MakesVersion, IsAnswered}
-use Rattle.belief_model.specs.Laws.{LabelsApartWith, newest_mark}
+use Rattle.fold_model.specs.LabelLaws.{LabelsApartWith, newest_mark}
 use Rattle.ring_world.specs.declared.state.World.{World}
 use Rattle.ring_world.specs.Worlds.{WorldStands}
 use Rattle.pond_node.specs.declared.node.Node.{Node}

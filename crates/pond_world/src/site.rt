@@ -26,10 +26,9 @@ ghost use Rattle.pond_world.specs.Setups.{IsSetup, ring_by};
 ghost use Rattle.pond_world.specs.Sites.{IsClashAfter, WorldsStayKnown};
 
 use crate::opening::{open, ring_is_sound};
-use belief_model::last_is_told;
 use block_names::{Book, Hash160, NameFault, StepFault};
 use client_core::Client;
-use fold_model::{heart_is_version, reply_is_outcome, seal_is_manifest};
+use fold_model::{heart_is_version, last_is_told, reply_is_outcome, seal_is_manifest};
 use guarded_update::Setup;
 use pond_base::{ClientId, Name};
 use pond_node::Node;

@@ -15,8 +15,8 @@ use Rattle.ring_model.proofs.Believed.{believed_heart}
 use Rattle.fold_model.specs.Folds.{requests_of, heart_by}
 use Rattle.fold_model.specs.Rings.{ring_of}
 use Rattle.fold_model.proofs.Versions.{versions_stay}
-use Rattle.belief_model.specs.Laws.{LabelsApartWith, MadeVersionsRise, HeartIsOfLabel, IsVersionOf, versions_to}
-use Rattle.belief_model.proofs.Made.{IsMade, made_at, made_last, taken_prefix}
+use Rattle.fold_model.specs.LabelLaws.{LabelsApartWith, MadeVersionsRise, HeartIsOfLabel, IsVersionOf, versions_to}
+use Rattle.fold_model.proofs.Made.{IsMade, made_at, made_last, taken_prefix}
 
 -- ---- rising
 

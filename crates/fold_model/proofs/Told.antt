@@ -18,9 +18,9 @@ use Rattle.ring_model.proofs.Answered.{all_told}
 use Rattle.fold_model.specs.Folds.{requests_of, of_newest, mark_of, heart_after}
 use Rattle.fold_model.specs.Rings.{ring_of}
 use Rattle.fold_model.proofs.Versions.{own_label, version_first}
-use Rattle.belief_model.specs.Laws.{LabelsApartWith, LastIsTold, mark_of_newest, newest_mark}
-use Rattle.belief_model.proofs.Made.{one_more}
-use Rattle.belief_model.proofs.Labels.{made_versions_rise}
+use Rattle.fold_model.specs.LabelLaws.{LabelsApartWith, LastIsTold, mark_of_newest, newest_mark}
+use Rattle.fold_model.proofs.Made.{one_more}
+use Rattle.fold_model.proofs.Labels.{made_versions_rise}
 
 -- the mark of a version over older ones
 abbrev mark_over : (List ℕ → List ℕ) → ℕ → List ℕ → List ℕ → List (List ℕ) → Mark
