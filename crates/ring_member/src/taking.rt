@@ -16,7 +16,8 @@ ghost use Rattle.member_orders.specs.Told.{orders_told};
 ghost use Rattle.member_orders.specs.Standing.{Stands as Ordered};
 ghost use Rattle.ring_member.specs.Standing.{request_of};
 ghost use Rattle.message_model.specs.Reading.{IsRingOf, asked_in};
-ghost use Rattle.ring_member.specs.Members.{vote_of, IsOwn, StandsFor, told, sent_to_members, AreToMembers};
+ghost use Rattle.ring_member.specs.Members.{vote_of, IsOwn, StandsFor, told, sent_to_members};
+ghost use Rattle.message_model.specs.Members.{AreToMembers};
 
 use crate::Member;
 use crate::broadcast::broadcast;

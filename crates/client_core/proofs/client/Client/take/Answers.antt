@@ -1,4 +1,4 @@
-use Rattle.std.proofs.Common.{◌≡◌, ◌∷◌, ◌+◌, ◌*◌, ◌<◌, None, Some, ap, sym, subst, ◌∙◌, rules, arith}
+use Rattle.std.proofs.Common.{◌≡◌, ◌∷◌, ◌+◌, ◌*◌, ◌<◌, ap, sym, subst, ◌∙◌, rules, arith}
 use Rattle.pond_base.specs.declared.numbers.Party.TheVariants as party
 use Rattle.ring_model.specs.Messages as model
 use Rattle.ring_model.specs.World.{IsParty}
