@@ -5,7 +5,7 @@ use Rattle.ring_model.proofs.Stays.{executed_grows}
 use Rattle.message_model.specs.Meaning.{letter, packet}
 use Rattle.pond_node.proofs.Letters.{bytes_asked}
 use Rattle.pond_node.proofs.Caused.{by_book, by_ring, members_seated, all_caused, all_held, all_known, asked_grew, all_grew, asked_clash, done_clash}
-use Rattle.pond_node.proofs.node.Node.take.Goals as goal
+use Rattle.pond_node.proofs.taking.NodeNode.take.Goals as goal
 
 pub returns-in-Err-clause-grew : goal.returns-in-Err-clause-grew
 returns-in-Err-clause-grew g c = λ g' namings i got ring party st. asked_grew g.H.Hash160.naming g' namings got (letter c.args.from c.args.bytes.now) c.args.book.now.held c.take.new.book.held c.take.ensures.grew
