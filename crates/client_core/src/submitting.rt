@@ -16,6 +16,7 @@ use crate::Client;
 use crate::asking::{Asked, message_of, name_request, to_each};
 use block_names::{Book, Hash160, NameFault};
 use guarded_update::{Request, Update};
+use pond_base::limits::MOST_SLOTS;
 use pond_base::{Label, OutOfMemory};
 use ring_message::Out;
 
@@ -30,7 +31,7 @@ impl Client {
         update: Update,
     ) -> Result<Vec<Out>, NameFault>
         requires fits { IsTrue (update_fits update) }
-        requires few { length self.old.requests.items < 65536 }
+        requires few { length self.old.requests.items < MOST_SLOTS }
         ensures stands { OnOk result ((g : Ring) (c : ℕ) (submits : List (List ℕ)) (got : List Letter) → ClientStands self.old g c submits got
             → ClientStands self.new g c (submits ++ request_string (next_request self.old label update) ∷ []) got) }
         ensures texts { OnOk result (texts_of self.new ≡ texts_of self.old ++ request_string (next_request self.old label update) ∷ []) }

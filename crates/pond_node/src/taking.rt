@@ -13,6 +13,7 @@ use crate::Node;
 use block_names::{Book, Hash160, NameFault};
 use bytes::Bytes;
 use object_fold::Objects;
+use pond_base::limits::{LEAST_BLOCK, MOST_BLOCK, MOST_CLIENTS, MOST_FAULTY, MOST_SLOTS};
 use pond_base::{Items, MemberId, Party};
 use ring_member::Member;
 use ring_message::Out;
@@ -30,11 +31,11 @@ impl Node {
         clients: u8,
         block: u32,
     ) -> Result<Node, NameFault>
-        requires faults { f ≤ 3 }
-        requires clients { clients ≤ 16 }
-        requires least { 64 ≤ block }
-        requires most { block ≤ 8192 }
-        ensures stands { IfOk result (λ node. (g : Ring) (namings : Namings) → IsRingOf H.naming g → g.f ≡ f → g.clients ≡ clients → g.slots ≡ 65536 → FoldsAs H.naming block g namings
+        requires faults { f ≤ MOST_FAULTY }
+        requires clients { clients ≤ MOST_CLIENTS }
+        requires least { LEAST_BLOCK ≤ block }
+        requires most { block ≤ MOST_BLOCK }
+        ensures stands { IfOk result (λ node. (g : Ring) (namings : Namings) → IsRingOf H.naming g → g.f ≡ f → g.clients ≡ clients → g.slots ≡ MOST_SLOTS → FoldsAs H.naming block g namings
             → NodeStands node g namings id.0 []) }
         ensures known { IfOk result (IsKnown H.naming book.new.held) }
         ensures held { OnOk result (book.new.held ≡ keep_all H.naming (version_strings H.naming block [] []) book.old.held) }
