@@ -194,7 +194,8 @@ none_held h held one none = empty (texts_of one) (length-map one.requests.items 
     empty [] e = tt
     empty (text ∷ texts) e = absurd (omega (arith, e))
 
-some_item : {X : Type 0} (xs : List X) → 0 < length xs → X
+-- an item of a list that has one
+pub some_item : {X : Type 0} (xs : List X) → 0 < length xs → X
 some_item [] low = absurd (omega (arith, low))
 some_item (x ∷ xs) low = x
 

@@ -19,6 +19,7 @@ mod hearing;
 mod look;
 mod members;
 mod new;
+mod places;
 mod said;
 mod settle;
 mod skips;

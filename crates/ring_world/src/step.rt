@@ -49,6 +49,9 @@ impl<N: Node> World<N> {
                 Ok(true)
             }
             Event::Deliver { from, to, place } => {
+                if place == 0 {
+                    return Ok(false);
+                }
                 let note = Note {
                     from,
                     to,
@@ -64,11 +67,11 @@ impl<N: Node> World<N> {
         }
     }
 
-    /// Does the next event. The caller keeps the list of events legal: parties are declared, a forger is
-    /// faulty, and a resubmitted number was submitted. `Ended` is answered exactly where an earlier call
-    /// answered another fault, and then nothing changes; after any other fault the world has ended. `Clash`
-    /// is answered only where two different strings of one name are among those that the book held and
-    /// those that the event names, and where two are, `Ok` is not.
+    /// Does the next event. The caller keeps the list of events legal: a forger is faulty, and no more
+    /// requests are submitted than there are slots, as [`World::may`] tells. `Ended` is answered exactly
+    /// where an earlier call answered another fault, and then nothing changes; after any other fault the
+    /// world has ended. `Clash` is answered only where two different strings of one name are among those
+    /// that the book held and those that the event names, and where two are, `Ok` is not.
     pub fn step<H: Hash160 + Drop>(
         &mut self,
         book: &mut Book<H>,
