@@ -1,5 +1,5 @@
 -- What deliveries name, the text names.
-use Rattle.std.proofs.Common.{◌≡◌, ◌≤◌, ◌+◌, ◌*◌, ◌-◌, ◌||◌, ℕ, Bool, List, [], ◌∷◌, ◌++◌, slice_get, Contains, ⊎_elim, refl, sym, ap₂, subst, arith}
+use Rattle.std.proofs.Common.{◌≡◌, ◌≤◌, ◌+◌, ◌*◌, ◌-◌, ◌||◌, ℕ, zero, suc, Bool, List, [], ◌∷◌, ◌++◌, slice_get, Contains, ⊎_elim, refl, sym, ap₂, subst, arith}
 use Rattle.std.specs.List.{list_any}
 use Rattle.std.proofs.lemmas.List.Elements.{Contains-append_left, Contains-append_right}
 use Rattle.pond_base.specs.declared.numbers.Party.{Party}
@@ -9,14 +9,16 @@ use Rattle.ring_model.specs.World.{World, Event, between, world, IsLegal, chosen
 use Rattle.ring_model.specs.World as model
 use Rattle.ring_model.specs.Laws.{NoClash}
 use Rattle.ring_model.proofs.Chosen.{agrees}
+use Rattle.ring_model.proofs.Lists.{there_none}
 use Rattle.message_model.specs.Meaning.{who}
 use Rattle.fold_model.specs.Folds.{requests_of, namings_by}
 use Rattle.ring_mail.specs.Places.{Place}
 use Rattle.ring_world.specs.declared.event.Event.TheVariants as happening
-use Rattle.ring_world.specs.Deliveries.{settled, named_along}
+use Rattle.ring_world.specs.Deliveries.{settled, named_along, named_of}
 use Rattle.ring_world.specs.Skipping.{touches, stands_at}
 use Rattle.ring_world.specs.Worlds.{strings_of}
 use Rattle.ring_world.proofs.Order.{came_submits}
+use Rattle.ring_world.proofs.Stepping.{nothing_there, place_less}
 use Rattle.pond_world.proofs.Flags.{few_among}
 use Rattle.script_terms.specs.declared.line.Line.{Line}
 use Rattle.script_terms.specs.declared.line.Line.TheVariants.{Deliver}
@@ -73,12 +75,16 @@ delivery_named : (h : List ℕ → List ℕ) (script : Script) (earlier : List N
     → IsLegal (ring_for h script) (events_of h script ((number, Deliver sender to place) ∷ earlier)) → NoClash (ring_for h script) (world_of h script ((number, Deliver sender to place) ∷ earlier)).submits
     → Contains (strings_of (ring_for h script) (namings_by h script.setup.block) (world_of h script earlier) (happening.Deliver sender to place)) s
     → Contains (named h script ((number, Deliver sender to place) ∷ earlier)) s
-delivery_named h script earlier number sender to place s fits are legal clear there =
+delivery_named h script earlier number sender to zero s fits are legal clear there =
+    absurd (there_none s (subst (λ o. Contains (named_of (ring_for h script) (namings_by h script.setup.block) (world_of h script earlier) o) s) (nothing_there (world_of h script earlier).sent (who sender) (who to) 0 refl) there))
+delivery_named h script earlier number sender to (suc place) s fits are legal clear there =
     let g = ring_for h script in
     let events = events_of h script earlier in
-    let event = model.Deliver (who sender) (who to) (place - 1) in
-    foreseen_named h script earlier (world g (event ∷ events)) are (came_submits g (world g events) (slice_get (between (who sender) (who to) (world g events).sent) (place - 1))) s
-    (all_foreseen g (namings_by h script.setup.block) (few_faulty h script fits) (event ∷ events) [] (event ∷ []) events refl legal clear s there)
+    let event = model.Deliver (who sender) (who to) (suc place - 1) in
+    let here = subst (λ k. Contains (named_of g (namings_by h script.setup.block) (world g events) (slice_get (between (who sender) (who to) (world g events).sent) k)) s)
+    (place_less (world g events).sent (suc place) (λ none. absurd (omega (arith, none)))) there in
+    foreseen_named h script earlier (world g (event ∷ events)) are (came_submits g (world g events) (slice_get (between (who sender) (who to) (world g events).sent) (suc place - 1))) s
+    (all_foreseen g (namings_by h script.setup.block) (few_faulty h script fits) (event ∷ events) [] (event ∷ []) events refl legal clear s here)
 
 pub deliveries_are_named : DeliveriesAreNamed
 deliveries_are_named h script earlier line sender to place string is fits are legal clear there =
