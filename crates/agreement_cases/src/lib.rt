@@ -4,6 +4,8 @@
 #[cfg(test)]
 mod clients;
 #[cfg(test)]
+mod coming;
+#[cfg(test)]
 mod ends;
 #[cfg(test)]
 mod members;
