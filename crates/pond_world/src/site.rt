@@ -173,7 +173,8 @@ impl<H: Hash160 + Drop> Site<H> {
 
     /// A client of the world. What it believes of versions and of its requests is so in the fold of the
     /// committed list, and once all was delivered and member 0 is correct it believes an outcome of each
-    /// of its requests and holds the heart of each last version. Takes no memory.
+    /// of its requests and holds the heart of the last version of each label whose string the book has,
+    /// as it has of each label that was submitted. Takes no memory.
     pub fn client(&self, client: ClientId) -> &Client
         requires { client.0 < length self.now.world.clients.items }
         ensures stands { (g : Ring) (namings : Namings) (events : List model.Event) → WorldStands NodeStands g namings self.now.world events
@@ -182,7 +183,7 @@ impl<H: Hash160 + Drop> Site<H> {
         ensures seals { ForSetups H.naming self.now.world (λ block manifest g events. SealsAreManifests H.naming block manifest g events client.0) }
         ensures replies { ForSetups H.naming self.now.world (λ block manifest g events. RepliesAreOutcomes H.naming block g events client.0) }
         ensures answered { ForSetups H.naming self.now.world (λ block manifest g events. g.is_faulty 0 ≡ false → AllDelivered g (world g events) → AreAnswered g events client.0) }
-        ensures told { ForSetups H.naming self.now.world (λ block manifest g events. g.is_faulty 0 ≡ false → AllDelivered g (world g events) → HoldsTheLast H.naming block g events client.0) }
+        ensures told { ForSetups H.naming self.now.world (λ block manifest g events. g.is_faulty 0 ≡ false → AllDelivered g (world g events) → HoldsTheLast H.naming self.now.held block g events client.0) }
     {
         ring_is_sound();
         heart_is_version();
@@ -190,6 +191,7 @@ impl<H: Hash160 + Drop> Site<H> {
         reply_is_outcome();
         last_is_told();
         self.world.submits_apart(&self.book);
+        self.world.labels_held(&self.book);
         self.world.client(client)
     }
 

@@ -1,5 +1,5 @@
 -- A world of nodes and clients, and the events that it stands for.
-use Rattle.std.specs.Prelude.{◌≡◌, ℕ, zero, suc, ◌+◌, ◌*◌, ◌<◌, ◌≤◌, Bool, false, ◌==◌, List, [], ◌∷◌, map, filter, length, count_by, slice_get, slice_index_or}
+use Rattle.std.specs.Prelude.{◌≡◌, ℕ, zero, suc, ◌+◌, ◌*◌, ◌<◌, ◌≤◌, Bool, false, ◌==◌, List, [], ◌∷◌, map, filter, length, count_by, slice_get, slice_index_or, Contains}
 use Rattle.std.specs.List.{AllByRecursion}
 use Rattle.circular_buffer.specs.Buffer.{keep_last}
 use Rattle.block_names.specs.Held.{Held}
@@ -12,6 +12,7 @@ use Rattle.ring_model.specs.Messages.{Ring, Packet, Client as client}
 use Rattle.ring_model.specs.World as model
 use Rattle.ring_model.specs.World.{World as Model, world, IsLegal, MayHappen, between}
 use Rattle.message_model.specs.Meaning.{who, meaning}
+use Rattle.message_model.specs.Requests.{request_at}
 use Rattle.message_model.specs.Reading.{IsRingOf}
 use Rattle.client_core.specs.declared.client.Client.{Client}
 use Rattle.client_core.specs.Clients.{ClientStands, texts_of}
@@ -48,10 +49,18 @@ pub record WorldStands {N : Type 0} (stands : Standing N) (g : Ring) (namings : 
   pub is : IsWorld stands g namings w (world g events) (deliveries g events)
   pub legal : IsLegal g events
 
--- what is held has all that the world named: what its nodes named, and each submitted request
+-- a submitted request is held, and so is the string of its label
+abbrev pub IsNamed : (List ℕ → List ℕ) → Held → List ℕ → Type 0
+IsNamed h held text = Holds h held text × Holds h held (label_string (request_at text).label)
+
+-- the string of the label of each of these requests is held
+abbrev pub LabelsHeld : (List ℕ → List ℕ) → Held → List (List ℕ) → Type 0
+LabelsHeld h held submits = (text : List ℕ) → Contains submits text → Holds h held (label_string (request_at text).label)
+
+-- what is held has all that the world named: what its nodes named, and each submitted request with the string of its label
 pub record IsKnown {N : Type 0} (knows : Knowing N) (h : List ℕ → List ℕ) (held : Held) (w : World N) : Type 0 where
   pub nodes : NodesKnown knows h held w.members
-  pub requests : (c : ℕ) (d : Client) → c < length w.clients.items → AllByRecursion (Holds h held) (texts_of (slice_index_or w.clients.items c d))
+  pub requests : (c : ℕ) (d : Client) → c < length w.clients.items → AllByRecursion (IsNamed h held) (texts_of (slice_index_or w.clients.items c d))
 
 -- the client's next request, of this label and update
 abbrev pub next_request : Ring → Model → ℕ → List ℕ → Update → Asking

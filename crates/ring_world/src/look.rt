@@ -15,7 +15,7 @@ ghost use Rattle.ring_world.specs.Bound.{PlacesFit};
 ghost use Rattle.ring_world.specs.Crew.{AreMembers};
 ghost use Rattle.ring_world.specs.Deliveries.{deliveries};
 ghost use Rattle.ring_world.specs.Skipping.{told, counted};
-ghost use Rattle.ring_world.specs.Worlds.{WorldStands, IsKnown, ForEvents};
+ghost use Rattle.ring_world.specs.Worlds.{WorldStands, IsKnown, LabelsHeld, ForEvents};
 
 use crate::delivering::told;
 use crate::members::Members;
@@ -119,6 +119,13 @@ impl<N: Node> World<N> {
     pub fn submits_apart<H: Hash160 + Drop>(&self, book: &Book<H>)
         requires { IsKnown N.knows H.naming book.now.held self.now }
         ensures { ForEvents N.stands H.naming self.now (λ g namings events. NoClash g (world g events).submits) }
+    {}
+
+    /// The strings of the labels of all submitted requests are held, where the book has what the world
+    /// named. So no two of these labels have one name. Does nothing.
+    pub fn labels_held<H: Hash160 + Drop>(&self, book: &Book<H>)
+        requires { IsKnown N.knows H.naming book.now.held self.now }
+        ensures { ForEvents N.stands H.naming self.now (λ g namings events. LabelsHeld H.naming book.now.held (world g events).submits) }
     {}
 }
 
