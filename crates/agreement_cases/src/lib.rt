@@ -12,4 +12,6 @@ mod orders;
 #[cfg(test)]
 mod sites;
 #[cfg(test)]
+mod telling;
+#[cfg(test)]
 mod votes;
