@@ -3,7 +3,7 @@ use block_names::NameFault;
 use bytes::Bytes;
 use guarded_update::RequestFault;
 use hex::FromHexError;
-use pond_base::{BadLabel, Name, OutOfMemory};
+use pond_base::{Name, OutOfMemory};
 use std::alloc::{AllocError, AllocFailed, Global};
 use std::process::Abort;
 
@@ -44,12 +44,6 @@ impl From<NameFault> for Broken {
 
 impl From<FromHexError> for Broken {
     fn from(_error: FromHexError) -> Broken {
-        Broken::Spelling
-    }
-}
-
-impl From<BadLabel> for Broken {
-    fn from(_error: BadLabel) -> Broken {
         Broken::Spelling
     }
 }
