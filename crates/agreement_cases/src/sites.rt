@@ -188,10 +188,7 @@ fn settle(alloc: Global, site: &mut Site<Sha1Hash>) -> Result<String, Fail> {
     };
     let before = site.book().namings();
     site.settle(&skips)?;
-    text(
-        alloc,
-        amount(site.book().namings().saturating_sub(before)),
-    )
+    text(alloc, amount(site.book().namings().saturating_sub(before)))
 }
 
 fn name(alloc: Global, site: &mut Site<Sha1Hash>, digits: &str) -> Result<String, Fail> {

@@ -7,35 +7,35 @@ use Rattle.script_run.specs.Labels.{AreLabels}
 use Rattle.script_run.proofs.Labelled.{labels_next}
 use Rattle.script_run.proofs.LabelStrings.{labels_more, labels_clash, all_lines}
 use Rattle.script_run.proofs.Turns.{holds_still}
-use Rattle.script_run.proofs.beginning.with_labels.Goals as goal
+use Rattle.script_run.proofs.beginning.name_labels.Goals as goal
 
 pub loop-line-init : goal.loop-line-init
 loop-line-init g c = record {
   world = refl;
-  holds = λ strings just. holds_still g.H.Hash160.naming c.args.site strings just;
+  holds = λ strings just. holds_still g.H.Hash160.naming c.args.site.now strings just;
   labels = search rules;
 }
 
-pub returns-in_err-named-clause-fault : goal.returns-in_err-named-clause-fault
-returns-in_err-named-clause-fault g c =
+pub returns-in_err-name_label_of-clause-fault : goal.returns-in_err-name_label_of-clause-fault
+returns-in_err-name_label_of-clause-fault g c =
     let p = err_from_is_err_and c.from_residual.result c.from_residual.ensures.1 in
     let lines = c.args.lines.now in
     let i = c.loop-line.line-index in
     rw (p.1, p.2)
     (λ strings just.
-    labels_clash g.H.Hash160.naming strings lines i c.loop-line-item.result c.in_err-named.field-0.0 c.loop-line-test.true c.loop-line-item.is
-    (c.in_err-named.ensures.fault c.loop-line-item.result.0 (strings ++ flat_map label_strings (take i lines)) (c.loop-line.invariant.holds strings just)))
+    labels_clash g.H.Hash160.naming strings lines i c.loop-line-item.result c.in_err-name_label_of.field-0.0 c.loop-line-test.true c.loop-line-item.is
+    (c.in_err-name_label_of.ensures.fault c.loop-line-item.result.0 (strings ++ flat_map label_strings (take i lines)) (c.loop-line.invariant.holds strings just)))
 
 pub loop-line-preserved : goal.loop-line-preserved
 loop-line-preserved g c =
     let lines = c.args.lines.now in
     let i = c.loop-line.line-index in
     record {
-      world = c.in_ok-named.ensures.world ∙ c.loop-line.invariant.world;
-      holds = λ strings just. subst (HoldsJust g.H.Hash160.naming c.in_ok-named.named.held) (labels_more strings lines i c.loop-line-item.result c.loop-line-test.true c.loop-line-item.is)
-          (c.in_ok-named.ensures.holds c.loop-line-item.result.0 (strings ++ flat_map label_strings (take i lines)) (c.loop-line.invariant.holds strings just));
-      labels = labels_next g.H.Hash160.naming c.with_label.new.labels.entries lines i c.loop-line-item.result c.loop-line-test.true c.loop-line-item.is
-          (c.in_ok-named.ensures.labels c.loop-line-item.result.0 (reverse (take i lines)) c.loop-line.invariant.labels);
+      world = c.name_label_of.ensures.world ∙ c.loop-line.invariant.world;
+      holds = λ strings just. subst (HoldsJust g.H.Hash160.naming c.name_label_of.new.site.held) (labels_more strings lines i c.loop-line-item.result c.loop-line-test.true c.loop-line-item.is)
+          (c.in_ok-name_label_of.ensures.holds c.loop-line-item.result.0 (strings ++ flat_map label_strings (take i lines)) (c.loop-line.invariant.holds strings just));
+      labels = labels_next g.H.Hash160.naming c.name_label_of.new.labels.entries lines i c.loop-line-item.result c.loop-line-test.true c.loop-line-item.is
+          (c.in_ok-name_label_of.ensures.labels c.loop-line-item.result.0 (reverse (take i lines)) c.loop-line.invariant.labels);
     }
 
 pub returns-clause-world : goal.returns-clause-world
@@ -43,7 +43,7 @@ returns-clause-world g c = c.loop-line.invariant.world
 
 pub returns-clause-holds : goal.returns-clause-holds
 returns-clause-holds g c = λ strings just.
-    subst (λ lines. HoldsJust g.H.Hash160.naming c.loop-line.named.held (strings ++ flat_map label_strings lines)) (all_lines c.args.lines.now c.loop-line.line-index (omega (arith, c.loop-line-test.false)))
+    subst (λ lines. HoldsJust g.H.Hash160.naming c.loop-line.site.held (strings ++ flat_map label_strings lines)) (all_lines c.args.lines.now c.loop-line.line-index (omega (arith, c.loop-line-test.false)))
     (c.loop-line.invariant.holds strings just)
 
 pub returns-clause-labels : goal.returns-clause-labels

@@ -16,21 +16,21 @@ returns-in_err-site-clause-fault g c =
     let script = c.args.script.now in
     rw (p.1, p.2) (first_clash h (version_strings h script.setup.block [] []) (flat_map label_strings script.lines) c.in_err-site.field-0.0 c.in_err-site.ensures.fault)
 
-pub returns-in_err-site-2-clause-fault : goal.returns-in_err-site-2-clause-fault
-returns-in_err-site-2-clause-fault g c =
-    let p = err_from_is_err_and c.from_residual-in_err-site-2.result c.from_residual-in_err-site-2.ensures.1 in
+pub returns-in_err-labels-clause-fault : goal.returns-in_err-labels-clause-fault
+returns-in_err-labels-clause-fault g c =
+    let p = err_from_is_err_and c.from_residual-in_err-labels.result c.from_residual-in_err-labels.ensures.1 in
     let h : List ℕ → List ℕ = g.H.Hash160.naming in
     let script = c.args.script.now in
     let just = holds_first h c.in_ok-site.site.held (version_strings h script.setup.block [] []) c.in_ok-site.ensures.grew (c.holds_empty.ensures (c.in_ok-site.ensures.stands no_manifest) c.requires) in
     rw (p.1, p.2)
-    (subst (λ lines. IsClashOf h (version_strings h script.setup.block [] [] ++ flat_map label_strings lines) c.in_err-site-2.field-0.0) c.as_slice.ensures
-    (c.in_err-site-2.ensures.fault (version_strings h script.setup.block [] []) just))
+    (subst (λ lines. IsClashOf h (version_strings h script.setup.block [] [] ++ flat_map label_strings lines) c.in_err-labels.field-0.0) c.as_slice.ensures
+    (c.in_err-labels.ensures.fault (version_strings h script.setup.block [] []) just))
 
 pub returns-clause-stands : goal.returns-clause-stands
 returns-clause-stands g c =
     let h : List ℕ → List ℕ = g.H.Hash160.naming in
     let script = c.args.script.now in
-    stands_first h script c.in_ok-site.site c.in_ok-site-2.site _ (c.in_ok-site.ensures.stands no_manifest)
-    (holds_first h c.in_ok-site.site.held (version_strings h script.setup.block [] []) c.in_ok-site.ensures.grew (c.holds_empty.ensures (c.in_ok-site.ensures.stands no_manifest) c.requires)) c.in_ok-site-2.ensures.world
-    (λ strings just. subst (λ lines. HoldsJust h c.in_ok-site-2.site.held (strings ++ flat_map label_strings lines)) c.as_slice.ensures (c.in_ok-site-2.ensures.holds strings just)) c.new.ensures.items
+    stands_first h script c.in_ok-site.site c.name_labels.new.site _ (c.in_ok-site.ensures.stands no_manifest)
+    (holds_first h c.in_ok-site.site.held (version_strings h script.setup.block [] []) c.in_ok-site.ensures.grew (c.holds_empty.ensures (c.in_ok-site.ensures.stands no_manifest) c.requires)) c.name_labels.ensures.world
+    (λ strings just. subst (λ lines. HoldsJust h c.name_labels.new.site.held (strings ++ flat_map label_strings lines)) c.as_slice.ensures (c.in_ok-labels.ensures.holds strings just)) c.new.ensures.items
     c.new-2.ensures.items
