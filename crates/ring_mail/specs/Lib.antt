@@ -1,3 +1,5 @@
 pub mod Mails
 pub mod Places
+pub mod Queues
 pub mod Seats
+pub mod Skips
