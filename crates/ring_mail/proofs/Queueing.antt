@@ -2,10 +2,10 @@
 use Rattle.std.proofs.Common.{◌≡◌, ℕ, zero, suc, ◌+◌, ◌*◌, ◌/◌, ◌%◌, ◌<◌, ◌≤◌, Bool, true, false, cond, not, ◌&&◌, ◌||◌, ◌==◌, nat_lt, List, [], ◌∷◌, length, set, slice_get, get_or, Option, Some, None, ⊎_elim, refl, sym, ap, ap₂, ◌∙◌, subst, subst₂, arith}
 use Rattle.std.specs.List.{AllByRecursion as Each, list_any}
 use Rattle.std.specs.List.Sorted.{IsStrictlySortedBy}
-use Rattle.std.specs.Ordering.{nat_cmp, is_eq}
-use Rattle.std.specs.declared.cmp.Ordering.TheVariants.{Less}
+use Rattle.std.specs.Ordering.{nat_cmp, is_eq, match_ordering}
+use Rattle.std.specs.declared.cmp.Ordering.TheVariants.{Less, Greater}
 use Rattle.std.specs.BTreeMap.{is_at}
-use Rattle.std.specs.BTreeSet.{BTreeSet, contains, IsOrdered}
+use Rattle.std.specs.BTreeSet.{BTreeSet, contains, insert_key, IsOrdered}
 use Rattle.std.proofs.lemmas.Bool.{eqb-true, eq-eqb, ne_eqb, and_from, and_parts, cases_eq, false_from_ne_true, or_cases, lt-ltb, le-ltb, not-true}
 use Rattle.std.proofs.lemmas.Bool.Decides.{nat_tests}
 use Rattle.std.proofs.lemmas.List.{get_or-set_same, get_or-set_other}
@@ -185,6 +185,33 @@ changed_as sets sets1 sets2 one heads without after muted muted1 muted2 link low
     subst₂ (λ xs ms. AreHeads xs after ms) (sym (s2 ∙ ap (λ xs. set xs link one) s1)) (sym (m2 ∙ m1))
     (changed sets one heads without after muted link low rises hidden
     (λ q. shown q ∙ ap₂ (λ xs ms. cond (is_lead (set xs link one) link q) (not (is_quiet ms link)) (contains nat_cmp without q)) s1 m1) h)
+
+-- one that comes behind the first leaves it first
+first_stays : (ks : List ℕ) (first number n : ℕ) → is_some_of (slice_get ks 0) first ≡ true → first < number → is_some_of (slice_get (insert_key nat_cmp ks number) 0) n ≡ is_some_of (slice_get ks 0) n
+first_stays [] first number n e low = absurd (cc e)
+first_stays (k ∷ ks) first number n e low =
+    let same : k ≡ first = eqb-true k first e in
+    let above : nat_cmp number k ≡ Greater = greater number k (omega (arith, same, low)) in
+    ap (λ o. is_some_of (slice_get (match_ordering o (number ∷ k ∷ ks) (k ∷ ks) (k ∷ insert_key nat_cmp ks number)) 0) n) above
+  where
+    greater : (x y : ℕ) → y < x → nat_cmp x y ≡ Greater
+    greater x y l = grind (arith, nat_tests)
+
+pub behind : (sets : List (BTreeSet ℕ)) (one new heads : BTreeSet ℕ) (muted : List Bool) (link number first : ℕ) → link < length sets → slice_get sets link ≡ Some one → is_first (slice_get sets link) first ≡ true → first < number
+    → new.keys ≡ insert_key nat_cmp one.keys number → IsOrdered nat_cmp new → AreHeads sets heads muted → AreHeads (set sets link new) heads muted
+behind sets one new heads muted link number first low there is below keys rises h = record { rise = rise; heads_are = λ q. h.heads_are q ∙ ap (λ b. not (is_quiet muted (q % 676)) && b) (sym (same (q % 676) (q / 676))) }
+  where
+    rise : (l : ℕ) → Rises (slice_get (set sets link new) l)
+    rise l =
+        ⊎_elim (λ e. subst Rises (sym (ap (λ l. slice_get (set sets link new) l) e ∙ slice_set_same sets link new low)) rises) (λ apart. subst Rises (sym (slice_set_other sets link l new apart)) (h.rise l)) (cases_eq l link)
+
+    same : (l n : ℕ) → is_first (slice_get (set sets link new) l) n ≡ is_first (slice_get sets l) n
+    same l n =
+        ⊎_elim
+        (λ e.
+        ap (λ l. is_first (slice_get (set sets link new) l) n) e ∙ ap (λ o. is_first o n) (slice_set_same sets link new low) ∙ ap (λ ks. is_some_of (slice_get ks 0) n) keys
+        ∙ first_stays one.keys first number n (ap (λ o. is_first o first) (sym there) ∙ is) below ∙ ap (λ o. is_first o n) (sym there) ∙ ap (λ l. is_first (slice_get sets l) n) (sym e))
+        (λ apart. ap (λ o. is_first o n) (slice_set_other sets link l new apart)) (cases_eq l link)
 
 -- ---- a seat that is muted, or no more
 

@@ -1,3 +1,4 @@
+pub mod Behind
 pub mod Mails
 pub mod Places
 pub mod Queues

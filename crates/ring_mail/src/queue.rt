@@ -1,8 +1,9 @@
 // The messages that are due, by their links.
-ghost use Rattle.std.specs.Prelude.{◌≡◌, ◌≤◌, ◌<◌, ◌%◌, ◌/◌, ◌&&◌, ◌||◌, ◌==◌, not, cond, ℕ, true, false, None, OnOk, IfOk, IfSome, length, slice_index_or, []};
+ghost use Rattle.std.specs.Prelude.{◌≡◌, ◌≤◌, ◌<◌, ◌%◌, ◌/◌, ◌&&◌, ◌||◌, ◌==◌, not, cond, ℕ, true, false, None, OnOk, IfOk, IfSome, IsTrue, length, slice_index_or, []};
 ghost use Rattle.std.specs.List.{AllByRecursion};
 ghost use Rattle.std.specs.BTreeSet.{contains};
 ghost use Rattle.std.specs.Ordering.{nat_cmp};
+ghost use Rattle.ring_mail.specs.Behind.{IsBehind};
 ghost use Rattle.ring_mail.specs.Queues.{IsQueue, waits, is_quiet as quiet, is_lead, is_some_of};
 
 use crate::kept::Queue;
@@ -42,6 +43,32 @@ impl Queue {
 
     // The message of this number waits on the link.
     pub(crate) fn add(&mut self, link: usize, number: u32) -> Result<(), OutOfMemory>
+        requires { link < 676 }
+        ensures waits { OnOk result ((l n : ℕ) → waits self.new.waiting.items l n ≡ (waits self.old.waiting.items l n || (l == link && n == number))) }
+        ensures heads { OnOk result (IsQueue self.old → IsQueue self.new) }
+        ensures muted { self.new.muted ≡ self.old.muted }
+    {
+        if self.is_behind(link, number) {
+            self.add_behind(link, number)
+        } else {
+            self.add_first(link, number)
+        }
+    }
+
+    // The same of one that comes behind others, which leaves their first one where it is.
+    fn add_behind(&mut self, link: usize, number: u32) -> Result<(), OutOfMemory>
+        requires link { link < 676 }
+        requires behind { IsBehind self.old.waiting.items link number }
+        ensures waits { OnOk result ((l n : ℕ) → waits self.new.waiting.items l n ≡ (waits self.old.waiting.items l n || (l == link && n == number))) }
+        ensures heads { OnOk result (IsQueue self.old → IsQueue self.new) }
+        ensures muted { self.new.muted ≡ self.old.muted }
+    {
+        self.waiting[link].insert(number)?;
+        Ok(())
+    }
+
+    // The same of one that may be the first of its link.
+    fn add_first(&mut self, link: usize, number: u32) -> Result<(), OutOfMemory>
         requires { link < 676 }
         ensures waits { OnOk result ((l n : ℕ) → waits self.new.waiting.items l n ≡ (waits self.old.waiting.items l n || (l == link && n == number))) }
         ensures heads { OnOk result (IsQueue self.old → IsQueue self.new) }
@@ -124,6 +151,17 @@ impl Queue {
             self.heads.insert(head)?;
         }
         Ok(())
+    }
+
+    // Whether a message of a lower number waits on the link.
+    fn is_behind(&self, link: usize, number: u32) -> bool
+        requires { link < 676 }
+        ensures { IsTrue result → IsBehind self.now.waiting.items link number }
+    {
+        match self.waiting[link].first() {
+            Some(first) => *first < number,
+            None => false,
+        }
     }
 
     // Whether the sender or the receiver of a link is muted.

@@ -2,7 +2,7 @@ use Rattle.std.proofs.Common.{ℕ, Bool, ap, Vec, arith}
 use Rattle.std.specs.BTreeSet.{BTreeSet}
 use Rattle.std.specs.declared.alloc.Global.{Global}
 use Rattle.ring_mail.proofs.Queueing.{changed_as}
-use Rattle.ring_mail.proofs.kept.Queue.add.Goals as goal
+use Rattle.ring_mail.proofs.kept.Queue.add_first.Goals as goal
 
 pub returns-clause-heads : goal.returns-clause-heads
 returns-clause-heads c = λ h.
