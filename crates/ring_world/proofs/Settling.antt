@@ -1,11 +1,9 @@
 -- Deliveries one after another.
-use Rattle.std.proofs.Common.{◌≡◌, ℕ, zero, suc, ◌+◌, ◌<◌, ◌≤◌, ◌^◌, Bool, true, false, cond, not, ◌&&◌, ◌||◌, List, [], ◌∷◌, ◌++◌, length, take, find, slice_get, Option, Some, None, ⊎_elim, refl, sym, ap, ◌∙◌, subst, subst₂, arith, append-nil, append_assoc}
+use Rattle.std.proofs.Common.{◌≡◌, ℕ, zero, suc, ◌+◌, ◌<◌, ◌≤◌, ◌^◌, Bool, true, false, cond, not, ◌&&◌, ◌||◌, List, [], ◌∷◌, ◌++◌, length, take, find, slice_get, Option, Some, None, ⊎_elim, refl, sym, ap, ◌∙◌, subst, arith, append-nil}
 use Rattle.std.specs.List.{AllByRecursion as Each}
-use Rattle.std.proofs.lemmas.Bool.{and_from, or_right, eq-eqb, cases_lt}
-use Rattle.std.proofs.lemmas.List.Elements.{filter-append}
+use Rattle.std.proofs.lemmas.Bool.{or_right, cases_lt}
 use Rattle.std.proofs.lemmas.List.Folds.{list_any-append}
-use Rattle.std.proofs.lemmas.Option.{slice_get_within}
-use Rattle.ring_model.specs.Messages.{Ring, Packet as Sent, same_party}
+use Rattle.ring_model.specs.Messages.{Ring, Packet as Sent}
 use Rattle.ring_model.specs.World.{World as Model, Event, Deliver, between, came, world, IsParty, IsLegal}
 use Rattle.ring_model.proofs.History.{same_some, Each-at}
 use Rattle.ring_model.proofs.Declared.{sent_declared}

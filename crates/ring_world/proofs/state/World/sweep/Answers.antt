@@ -1,8 +1,7 @@
-use Rattle.std.proofs.Common.{◌≡◌, ◌≤◌, ℕ, List, ◌++◌, Option, option_map, Some, None, find, refl, sym, ap, ◌∙◌, subst, arith}
+use Rattle.std.proofs.Common.{◌≡◌, ◌≤◌, ℕ, List, ◌++◌, Some, find, refl, sym, ap, ◌∙◌, subst, arith}
 use Rattle.std.proofs.lemmas.Result.{err_from_is_err_and}
 use Rattle.ring_model.specs.Messages.{Packet}
 use Rattle.ring_model.specs.World.{world}
-use Rattle.message_model.specs.Meaning.{who}
 use Rattle.ring_mail.specs.declared.kept.Note.{Note}
 use Rattle.ring_mail.specs.Places.{Place, place_of, places, is_due}
 use Rattle.ring_mail.specs.Skips.{Skips, is_skipped}
