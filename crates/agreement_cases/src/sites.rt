@@ -147,8 +147,8 @@ fn forge(alloc: Global, member: u8, to: Party, digits: &str) -> Result<Event, Fa
     })
 }
 
-fn line(alloc: Global, text: &str) -> Result<String, Fail> {
-    Ok(format!(in alloc; "{text}\n")?)
+fn text(alloc: Global, text: &str) -> Result<String, Fail> {
+    Ok(String::from_str(alloc, text)?)
 }
 
 fn numbered(alloc: Global, word: &str, number: u64) -> Result<String, Fail> {
@@ -157,28 +157,18 @@ fn numbered(alloc: Global, word: &str, number: u64) -> Result<String, Fail> {
 
 fn said_line(alloc: Global, said: Said) -> Result<String, Fail> {
     match said {
-        Said::Nothing => line(alloc, "nothing"),
+        Said::Nothing => text(alloc, "nothing\n"),
         Said::Sent(count) => numbered(alloc, "sent", u64::from(count)),
     }
 }
 
-// A site after an event, and what it answered.
-fn happens(site: Site<Sha1Hash>, event: Event) -> Result<(Site<Sha1Hash>, Said), Fail> {
+// Does an event, and tells what it answered.
+fn happens(alloc: Global, site: &mut Site<Sha1Hash>, event: Event) -> Result<String, Fail> {
     if !site.world().may(&event) {
         return Err(Fail::new("no such event"));
     }
-    Ok(site.step(event)?)
-}
-
-fn after(
-    alloc: Global,
-    site: Site<Sha1Hash>,
-    event: Event,
-    text: &mut String,
-) -> Result<Site<Sha1Hash>, Fail> {
-    let (site, said) = happens(site, event)?;
-    text.push_str(said_line(alloc, said)?.as_str())?;
-    Ok(site)
+    let said = site.step(event)?;
+    said_line(alloc, said)
 }
 
 fn amount(namings: u64) -> &'static str {
@@ -191,21 +181,23 @@ fn amount(namings: u64) -> &'static str {
     }
 }
 
-fn settle(alloc: Global, site: Site<Sha1Hash>, text: &mut String) -> Result<Site<Sha1Hash>, Fail> {
+fn settle(alloc: Global, site: &mut Site<Sha1Hash>) -> Result<String, Fail> {
     let skips = Skips {
         muted: Vec::new(alloc),
         lost: Vec::new(alloc),
     };
     let before = site.book().namings();
-    let (site, _count) = site.settle(&skips)?;
-    text.push_str(amount(site.book().namings().saturating_sub(before)))?;
-    Ok(site)
+    site.settle(&skips)?;
+    text(
+        alloc,
+        amount(site.book().namings().saturating_sub(before)),
+    )
 }
 
-fn name(alloc: Global, site: Site<Sha1Hash>, digits: &str) -> Result<Site<Sha1Hash>, Fail> {
+fn name(alloc: Global, site: &mut Site<Sha1Hash>, digits: &str) -> Result<String, Fail> {
     let bytes = bytes_of(alloc, digits)?;
-    let (site, _name) = site.name(bytes.as_slice())?;
-    Ok(site)
+    site.name(bytes.as_slice())?;
+    text(alloc, "named\n")
 }
 
 // A site after a string was named in its book.
@@ -252,40 +244,28 @@ fn event(alloc: Global, step: &Step) -> Result<Event, Fail> {
     }
 }
 
-// What is told of a site that stays as it is.
-fn look(alloc: Global, site: &Site<Sha1Hash>, step: &Step) -> Result<String, Fail> {
+// What a step tells.
+fn run_step(alloc: Global, site: &mut Site<Sha1Hash>, step: &Step) -> Result<String, Fail> {
     match step {
+        Step::Settle => settle(alloc, site),
+        Step::Name(digits) => name(alloc, site, digits),
+        Step::NameApart(_) => text(alloc, "named\n"),
         Step::Namings => numbered(alloc, "namings", site.book().namings()),
         Step::Submitted => submitted(alloc, site),
-        _ => line(alloc, "named"),
-    }
-}
-
-fn run_step(
-    alloc: Global,
-    site: Site<Sha1Hash>,
-    step: &Step,
-    text: &mut String,
-) -> Result<Site<Sha1Hash>, Fail> {
-    match step {
-        Step::Settle => settle(alloc, site, text),
-        Step::Name(digits) => name(alloc, site, digits),
-        Step::NameApart(digits) => name_apart(alloc, site, digits),
-        Step::Namings | Step::Submitted => Ok(site),
-        _ => after(alloc, site, event(alloc, step)?, text),
+        _ => happens(alloc, site, event(alloc, step)?),
     }
 }
 
 fn told(alloc: Global, f: u8, ids: &[u8], steps: &[Step]) -> Result<String, Fail> {
-    let mut text = String::new(alloc);
+    let mut told = String::new(alloc);
     let mut site = site(alloc, f, ids)?;
     for step in steps {
-        site = run_step(alloc, site, step, &mut text)?;
-        if let Step::Name(_) | Step::NameApart(_) | Step::Namings | Step::Submitted = step {
-            text.push_str(look(alloc, &site, step)?.as_str())?;
+        if let Step::NameApart(digits) = step {
+            site = name_apart(alloc, site, digits)?;
         }
+        told.push_str(run_step(alloc, &mut site, step)?.as_str())?;
     }
-    Ok(text)
+    Ok(told)
 }
 
 #[test]

@@ -15,6 +15,7 @@ mod clients;
 mod conditions;
 mod crew;
 mod delivering;
+mod duplicates;
 mod event;
 mod hearing;
 mod look;

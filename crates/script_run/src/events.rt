@@ -1,6 +1,8 @@
 // Lines that are events of the world.
-ghost use Rattle.std.specs.Prelude.{◌≡◌, ◌+◌, ◌<◌, length, reverse, Contains, IfOk, IfErr};
+ghost use Rattle.std.specs.Prelude.{◌≡◌, ◌≢◌, ◌+◌, ◌<◌, length, reverse, Contains, IfOk, IfErr};
+ghost use Rattle.block_names.specs.Faults.{step_fault};
 ghost use Rattle.block_names.specs.Growth.{Grew};
+ghost use Rattle.block_names.specs.declared.fault.StepFault.TheVariants.{Ended};
 ghost use Rattle.pond_node.specs.Standing.{NodeStands};
 ghost use Rattle.pond_world.specs.Sites.{IsClashAfter};
 ghost use Rattle.ring_world.specs.Worlds.{WorldStands, strings_of};
@@ -17,7 +19,7 @@ ghost use Rattle.script_run.specs.States.{StandsFor, StandsNext, IsTurn, IsComin
 
 use crate::labels::Labels;
 use crate::state::State;
-use block_names::{Hash160, NameFault};
+use block_names::{Hash160, NameFault, StepFault};
 use fold_model::ring_folds;
 use pond_base::{ClientId, Party};
 use pond_world::{Site, events_may_come};
@@ -162,10 +164,14 @@ impl<H: Hash160 + Drop> State<H> {
         settled_joins();
         settles_are_named();
         self.site.world().submits_apart(self.site.book());
-        let State { alloc, site, skips } = self;
-        let (site, _) = site.settle(&skips)?;
-        holds_committed(&site, script);
-        Ok(State { alloc, site, skips })
+        let mut state = self;
+        match state.site.settle(&state.skips) {
+            Ok(_) => {
+                holds_committed(&state.site, script);
+                Ok(state)
+            }
+            Err(fault) => Err(cause_of(fault)),
+        }
     }
 
     // The world after an event.
@@ -182,10 +188,24 @@ impl<H: Hash160 + Drop> State<H> {
         events_may_come();
         setups_join();
         lines_fit_in_turn();
-        let State { alloc, site, skips } = self;
-        site.world().may_step(&event);
-        let (site, _) = site.step(event)?;
-        Ok(State { alloc, site, skips })
+        let mut state = self;
+        state.site.world().may_step(&event);
+        match state.site.step(event) {
+            Ok(_) => Ok(state),
+            Err(fault) => Err(cause_of(fault)),
+        }
+    }
+}
+
+// Why a line's strings are not named, where the world had not ended before.
+pub(crate) fn cause_of(fault: StepFault) -> NameFault
+    requires { fault ≢ Ended }
+    ensures { fault ≡ step_fault result }
+{
+    match fault {
+        StepFault::Clash { old, new } => NameFault::Clash { old, new },
+        StepFault::Ended => unreachable!(),
+        StepFault::Memory => NameFault::Memory,
     }
 }
 

@@ -14,7 +14,6 @@ use block_names::{Hash160, NameFault};
 use bytes::Bytes;
 use message_model::messages_are_meant;
 use pond_base::{ClientId, Label, MemberId, Name, OutOfMemory, Party, Seq, Version};
-use pond_world::{Site, worlds_stay_known};
 use ring_message::{Message, write};
 use ring_world::Event;
 use script_events::asked_is_there;
@@ -192,12 +191,9 @@ impl<H: Hash160 + Drop> State<H> {
         ensures fault { IfErr result (IsClashOf H.naming (named H.naming script.now (lines_before script.now at))) }
     {
         asked_is_there();
-        worlds_stay_known();
         let text = self.asked(script, at, client, number)?;
-        let State { alloc, site, skips } = self;
-        let (mut book, world) = site.into_parts();
-        let name = book.name(text.as_slice())?;
-        let site = Site::of(book, world);
-        Ok((State { alloc, site, skips }, name))
+        let mut state = self;
+        let name = state.site.name(text.as_slice())?;
+        Ok((state, name))
     }
 }

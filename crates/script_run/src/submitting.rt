@@ -5,6 +5,7 @@ ghost use Rattle.script_terms.specs.declared.line.Line.TheVariants.{Submit};
 ghost use Rattle.text_model.specs.Named.{named};
 ghost use Rattle.script_run.specs.States.{IsTurn, StandsNext, lines_before};
 
+use crate::events::cause_of;
 use crate::state::State;
 use block_names::{Hash160, NameFault};
 use guarded_update::{Request, Update, write};
@@ -53,7 +54,10 @@ impl<H: Hash160 + Drop> State<H> {
             update: request.update,
         };
         world.may_step(&event);
-        let (site, _) = Site::of(book, world).step(event)?;
-        Ok(State { alloc, site, skips })
+        let mut site = Site::of(book, world);
+        match site.step(event) {
+            Ok(_) => Ok(State { alloc, site, skips }),
+            Err(fault) => Err(cause_of(fault)),
+        }
     }
 }
