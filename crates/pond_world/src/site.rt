@@ -1,15 +1,16 @@
 // A world with its book of names.
-ghost use Rattle.std.specs.Prelude.{◌≡◌, ◌==◌, ◌<◌, ℕ, true, false, List, [], ◌∷◌, ◌++◌, filter, length, Contains, IfOk, IfErr, OnOk};
+ghost use Rattle.std.specs.Prelude.{◌≡◌, ◌==◌, ◌<◌, ◌&&◌, ◌||◌, not, ℕ, true, false, List, [], ◌∷◌, ◌++◌, filter, length, Contains, IfOk, IfErr, OnOk, OnErr};
 ghost use Rattle.std.specs.FinMap as map;
 ghost use Rattle.block_names.specs.Growth.{keep_all, Grew, IsClashIn};
 ghost use Rattle.block_names.specs.Clashes.{AreHeld, NoneClash, IsClashAmong};
 ghost use Rattle.cow_tree.specs.Laws.{Keeps};
 ghost use Rattle.object_model.specs.Trees.{version_strings};
 ghost use Rattle.ring_model.specs.Member.{executed};
-ghost use Rattle.ring_model.specs.Messages.{Ring, FewFaulty, Member as member, Client as by};
+ghost use Rattle.ring_model.specs.Messages.{Ring, FewFaulty, Party as Who, Member as member, Client as by, same_party};
 ghost use Rattle.ring_model.specs.World as model;
 ghost use Rattle.ring_model.specs.World.{world, chosen};
 ghost use Rattle.ring_model.specs.Laws.{AllDelivered, IsCorrect, IsPrefix, NoClash};
+ghost use Rattle.message_model.specs.Meaning.{who};
 ghost use Rattle.client_core.specs.Clients.{ClientStands};
 ghost use Rattle.fold_model.specs.Folds.{Manifest, namings_by};
 ghost use Rattle.pond_node.specs.Standing as node;
@@ -18,7 +19,10 @@ ghost use Rattle.ring_node.specs.Naming.{Namings};
 ghost use Rattle.ring_world.specs.Beliefs.{AreAnswered};
 ghost use Rattle.ring_world.specs.Deliveries.{settled, named_along, IsNamedIn};
 ghost use Rattle.ring_world.specs.Settles.{Settles};
-ghost use Rattle.ring_world.specs.Skipping.{is_skipped};
+ghost use Rattle.ring_mail.specs.Places.{Place};
+ghost use Rattle.ring_mail.specs.Seats.{IsSeat};
+ghost use Rattle.ring_mail.specs.Skips.{is_skipped};
+ghost use Rattle.ring_world.specs.Skipping.{skips, stands_at, PassNothing};
 ghost use Rattle.ring_world.specs.Steps.{IsStep, Ends, IsStepClash, IsStepClashAmong, said_of};
 ghost use Rattle.ring_world.specs.Worlds.{WorldStands, IsKnown, ForEvents, ForStep, event_of, strings_of};
 ghost use Rattle.pond_world.specs.Beliefs.{ForSetups, HeartsAreVersions, SealsAreManifests, RepliesAreOutcomes, HoldsTheLast};
@@ -31,9 +35,9 @@ use block_names::{Book, Hash160, NameFault, StepFault};
 use client_core::Client;
 use fold_model::{heart_is_version, reply_is_outcome, seal_is_manifest};
 use guarded_update::Setup;
-use pond_base::{ClientId, Name};
+use pond_base::{ClientId, Name, OutOfMemory, Party};
 use pond_node::Node;
-use ring_world::{Event, Said, Skips, World};
+use ring_world::{Event, Said, World};
 use std::alloc::Global;
 use std::marker::Model;
 
@@ -66,6 +70,7 @@ impl<H: Hash160 + Drop> Site<H> {
     pub fn open(alloc: Global, hash: H, setup: &Setup) -> Result<Site<H>, NameFault>
         requires { IsSetup setup.now }
         ensures stands { IfOk result (λ site. (manifest : Manifest) → WorldStands NodeStands (ring_by H.naming setup.now manifest) (namings_by H.naming setup.now.block) site.world []) }
+        ensures skips { IfOk result (λ site. PassNothing (skips site.world)) }
         ensures held { IfOk result (λ site. site.held ≡ keep_all H.naming (version_strings H.naming setup.now.block [] []) map.empty) }
         ensures all { IfOk result (λ site. AreHeld H.naming site.held (version_strings H.naming setup.now.block [] [])) }
         ensures apart { OnOk result (NoneClash H.naming map.empty (Contains (version_strings H.naming setup.now.block [] []))) }
@@ -92,6 +97,7 @@ impl<H: Hash160 + Drop> Site<H> {
         ensures grows { OnOk result (ForStep NodeStands H.naming self.old.world event (λ g namings events. FewFaulty g → NoClash g (world g (event_of g (world g events) event ∷ events)).submits
             → IsPrefix (chosen g (world g events)) (chosen g (world g (event_of g (world g events) event ∷ events))))) }
         ensures ends { Ends self.old.world self.new.world result }
+        ensures skips { skips self.new.world ≡ skips self.old.world }
         ensures keeps { Keeps self.old.held self.new.held }
         ensures spent { self.old.world.ended ≡ true → self.new.held ≡ self.old.held }
         ensures held { OnOk result (ForStep NodeStands H.naming self.old.world event (λ g namings events. self.new.held ≡ keep_all H.naming (strings_of g namings (world g events) event) self.old.held)) }
@@ -106,26 +112,68 @@ impl<H: Hash160 + Drop> Site<H> {
 
     /// Delivers, in the order of sending, each message that was never delivered and is not passed over,
     /// those too that are sent meanwhile, and answers how many. Faults are as in [`Site::step`].
-    pub fn settle(&mut self, skips: &Skips) -> Result<u32, StepFault>
-        ensures settles { IfOk result (λ n. ForEvents NodeStands H.naming self.old.world (λ g namings events. Settles NodeStands g namings (is_skipped skips.now) events self.new.world n)) }
-        ensures delivered { IfOk result (λ n. skips.now.muted.items ≡ [] → skips.now.lost.items ≡ [] → ForEvents NodeStands H.naming self.old.world (λ g namings events.
-            AllDelivered g (world g (settled g (is_skipped skips.now) events n ++ events)))) }
-        ensures executed { IfOk result (λ n. skips.now.muted.items ≡ [] → skips.now.lost.items ≡ [] → ForEvents NodeStands H.naming self.old.world (λ g namings events. FewFaulty g → g.is_faulty 0 ≡ false
-            → (i : ℕ) → IsCorrect g i → (r : List ℕ) → Contains (world g (settled g (is_skipped skips.now) events n ++ events)).submits r
-            → Contains (executed g ((world g (settled g (is_skipped skips.now) events n ++ events)).got (member i))) r)) }
+    pub fn settle(&mut self) -> Result<u32, StepFault>
+        ensures settles { IfOk result (λ n. ForEvents NodeStands H.naming self.old.world (λ g namings events. Settles NodeStands g namings (is_skipped (skips self.old.world)) events self.new.world n)) }
+        ensures delivered { IfOk result (λ n. PassNothing (skips self.old.world) → ForEvents NodeStands H.naming self.old.world (λ g namings events.
+            AllDelivered g (world g (settled g (is_skipped (skips self.old.world)) events n ++ events)))) }
+        ensures executed { IfOk result (λ n. PassNothing (skips self.old.world) → ForEvents NodeStands H.naming self.old.world (λ g namings events. FewFaulty g → g.is_faulty 0 ≡ false
+            → (i : ℕ) → IsCorrect g i → (r : List ℕ) → Contains (world g (settled g (is_skipped (skips self.old.world)) events n ++ events)).submits r
+            → Contains (executed g ((world g (settled g (is_skipped (skips self.old.world)) events n ++ events)).got (member i))) r)) }
         ensures ends { Ends self.old.world self.new.world result }
+        ensures skips { skips self.new.world ≡ skips self.old.world }
         ensures keeps { Keeps self.old.held self.new.held }
         ensures spent { self.old.world.ended ≡ true → self.new.held ≡ self.old.held }
         ensures held { IfOk result (λ n. ForEvents NodeStands H.naming self.old.world (λ g namings events.
-            self.new.held ≡ keep_all H.naming (named_along g namings events (settled g (is_skipped skips.now) events n)) self.old.held)) }
+            self.new.held ≡ keep_all H.naming (named_along g namings events (settled g (is_skipped (skips self.old.world)) events n)) self.old.held)) }
         ensures all { IfOk result (λ n. ForEvents NodeStands H.naming self.old.world (λ g namings events.
-            AreHeld H.naming self.new.held (named_along g namings events (settled g (is_skipped skips.now) events n)))) }
-        ensures apart { OnOk result (ForEvents NodeStands H.naming self.old.world (λ g namings events. NoneClash H.naming self.old.held (IsNamedIn g namings (is_skipped skips.now) events))) }
-        ensures grew { ForEvents NodeStands H.naming self.old.world (λ g namings events. Grew H.naming self.old.held (IsNamedIn g namings (is_skipped skips.now) events) self.new.held) }
-        ensures fault { IfErr result (λ fault. ForEvents NodeStands H.naming self.old.world (λ g namings events. IsStepClash H.naming self.new.held (IsNamedIn g namings (is_skipped skips.now) events) fault)) }
-        ensures clash { IfErr result (λ fault. ForEvents NodeStands H.naming self.old.world (λ g namings events. IsStepClashAmong H.naming self.old.held (IsNamedIn g namings (is_skipped skips.now) events) fault)) }
+            AreHeld H.naming self.new.held (named_along g namings events (settled g (is_skipped (skips self.old.world)) events n)))) }
+        ensures apart { OnOk result (ForEvents NodeStands H.naming self.old.world (λ g namings events. NoneClash H.naming self.old.held (IsNamedIn g namings (is_skipped (skips self.old.world)) events))) }
+        ensures grew { ForEvents NodeStands H.naming self.old.world (λ g namings events. Grew H.naming self.old.held (IsNamedIn g namings (is_skipped (skips self.old.world)) events) self.new.held) }
+        ensures fault { IfErr result (λ fault. ForEvents NodeStands H.naming self.old.world (λ g namings events. IsStepClash H.naming self.new.held (IsNamedIn g namings (is_skipped (skips self.old.world)) events) fault)) }
+        ensures clash { IfErr result (λ fault. ForEvents NodeStands H.naming self.old.world (λ g namings events. IsStepClashAmong H.naming self.old.held (IsNamedIn g namings (is_skipped (skips self.old.world)) events) fault)) }
     {
-        self.world.settle(&mut self.book, skips)
+        self.world.settle(&mut self.book)
+    }
+
+    /// The message at this place, from 1 on, is lost, sent or not yet sent: settles pass over it. Where
+    /// memory runs out the world has ended.
+    pub fn lose(&mut self, from: Party, to: Party, place: u32) -> Result<(), OutOfMemory>
+        requires { IsSeat (who from) × IsSeat (who to) × (0 < place) }
+        ensures lost { OnOk result ((a : Place) → (skips self.new.world).lost a ≡ ((skips self.old.world).lost a || stands_at a (from, to, place))) }
+        ensures muted { OnOk result ((skips self.new.world).muted ≡ (skips self.old.world).muted) }
+        ensures stands { OnOk result ((g : Ring) (namings : Namings) (events : List model.Event) → WorldStands NodeStands g namings self.old.world events → WorldStands NodeStands g namings self.new.world events) }
+        ensures held { self.new.held ≡ self.old.held }
+        ensures going { OnOk result (self.new.world.ended ≡ self.old.world.ended) }
+        ensures ends { OnErr result (self.new.world.ended ≡ true) }
+    {
+        self.world.lose(from, to, place)
+    }
+
+    /// Settles pass over messages from and to this party. Where memory runs out the world has ended.
+    pub fn mute(&mut self, party: Party) -> Result<(), OutOfMemory>
+        requires { IsSeat (who party) }
+        ensures muted { OnOk result ((p : Who) → (skips self.new.world).muted p ≡ ((skips self.old.world).muted p || same_party (who party) p)) }
+        ensures lost { OnOk result ((skips self.new.world).lost ≡ (skips self.old.world).lost) }
+        ensures stands { OnOk result ((g : Ring) (namings : Namings) (events : List model.Event) → WorldStands NodeStands g namings self.old.world events → WorldStands NodeStands g namings self.new.world events) }
+        ensures held { self.new.held ≡ self.old.held }
+        ensures going { OnOk result (self.new.world.ended ≡ self.old.world.ended) }
+        ensures ends { OnErr result (self.new.world.ended ≡ true) }
+    {
+        self.world.mute(party)
+    }
+
+    /// Settles pass over messages from and to this party no more. Where memory runs out the world has
+    /// ended.
+    pub fn unmute(&mut self, party: Party) -> Result<(), OutOfMemory>
+        requires { IsSeat (who party) }
+        ensures muted { OnOk result ((p : Who) → (skips self.new.world).muted p ≡ ((skips self.old.world).muted p && not (same_party (who party) p))) }
+        ensures lost { OnOk result ((skips self.new.world).lost ≡ (skips self.old.world).lost) }
+        ensures stands { OnOk result ((g : Ring) (namings : Namings) (events : List model.Event) → WorldStands NodeStands g namings self.old.world events → WorldStands NodeStands g namings self.new.world events) }
+        ensures held { self.new.held ≡ self.old.held }
+        ensures going { OnOk result (self.new.world.ended ≡ self.old.world.ended) }
+        ensures ends { OnErr result (self.new.world.ended ≡ true) }
+    {
+        self.world.unmute(party)
     }
 
     /// Names a string, and answers its name. The world stays as it is.

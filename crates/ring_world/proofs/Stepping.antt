@@ -84,7 +84,7 @@ noted_last old new t a done is same h =
 -- no place is too great to be counted from 1
 pub all_few : (m : Mail) (sent : List Sent) (done : List Place) → IsMail m sent done → length sent ≤ 4294967295
 all_few m sent done h =
-    let size : length m.order.items ≡ length sent = sym (length-map m.order.items place_of) ∙ ap length h.order_is ∙ length-placed [] sent in
+    let size : length m.order.items ≡ length sent = sym (length-map m.order.items place_of) ∙ ap length h.kept.order_is ∙ length-placed [] sent in
     omega (arith, size, m.few)
 
 pub place_low : (m : Mail) (sent : List Sent) (done : List Place) (p q : Who) (k : ℕ) (x : Sent) → IsMail m sent done → Some x ≡ slice_get (between p q sent) k → min (k + 1) 4294967295 ≡ k + 1

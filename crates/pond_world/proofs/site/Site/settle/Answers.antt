@@ -11,3 +11,12 @@ returns-clause-executed g c = rw (← c.self.view_is) c.settle.ensures.executed
 
 pub returns-clause-apart : goal.returns-clause-apart
 returns-clause-apart g c = rw (← c.self.view_is) c.settle.ensures.apart
+
+pub returns-clause-all : goal.returns-clause-all
+returns-clause-all g c = rw (← c.self.view_is) c.settle.ensures.all
+
+pub returns-clause-fault : goal.returns-clause-fault
+returns-clause-fault g c = rw (← c.self.view_is) c.settle.ensures.fault
+
+pub returns-clause-clash : goal.returns-clause-clash
+returns-clause-clash g c = rw (← c.self.view_is) c.settle.ensures.clash

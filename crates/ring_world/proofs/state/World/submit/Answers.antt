@@ -63,7 +63,7 @@ returns-clause-ok g c = λ r namings v done ring h.
     made stood.number ring c.in_ok-messages.ensures.allowed c.requires.step.0.1 (c.in_ok-messages.ensures.stands r k (filter (of r k) v.submits) (v.got (client k)) stood)
     (subst (λ xs. IsMail c.post.new.mail (v.sent ++ xs) done)
     (ap (map (packet_from (client k))) c.deref.ensures.value ∙ c.in_ok-messages.ensures.sent r k (filter (of r k) v.submits) (v.got (client k)) ring stood)
-    (c.in_ok-post.ensures v.sent done h.mail_is)) h
+    (c.in_ok-post.ensures.mail v.sent done h.mail_is)) h
 
 pub returns-clause-names : goal.returns-clause-names
 returns-clause-names g c = λ r namings v done ring h.
