@@ -17,7 +17,7 @@ use Rattle.client_core.specs.Beliefs.{HeartsBelieved}
 use Rattle.client_core.specs.Clients.{ClientStands}
 use Rattle.client_core.specs.declared.client.Client.{Client as Kept}
 use Rattle.pond_world.specs.Sites.{SiteView}
-use Rattle.ring_world.specs.declared.skips.Skips.{Skips}
+use Rattle.ring_mail.specs.Skips.{Skips}
 use Rattle.script_terms.specs.declared.script.Script.{Script}
 use Rattle.script_terms.specs.declared.line.Line.TheVariants.{Read, ShowClient}
 use Rattle.script_limits.specs.Limits.{IsClient as IsDeclared}

@@ -4,6 +4,7 @@ ghost use Rattle.std.specs.List.{flat_map};
 ghost use Rattle.std.specs.Ordering.{nat_cmp};
 ghost use Rattle.std.specs.Cmp.Lexicographic.{slice_cmp};
 ghost use Rattle.std.specs.BTreeMap.{insert_entry};
+ghost use Rattle.ring_world.specs.Skipping.{skips};
 ghost use Rattle.script_limits.specs.Limits.{IsWithin};
 ghost use Rattle.object_model.specs.Trees.{object_name, version_strings};
 ghost use Rattle.pond_node.specs.Standing.{NodeStands};
@@ -22,7 +23,6 @@ use block_names::{Hash160, NameFault};
 use fold_model::ring_folds;
 use pond_base::Label;
 use pond_world::Site;
-use ring_world::Skips;
 use script_events::setups_join;
 use script_terms::{Line, Script};
 use std::alloc::Global;
@@ -38,7 +38,7 @@ impl<H: Hash160 + Drop> State<H> {
         hash: H,
     ) -> Result<(State<H>, Labels), NameFault>
         requires { IsWithin script.now }
-        ensures stands { IfOk result (λ first. StandsFor H.naming script.now [] first.0.site first.0.skips) }
+        ensures stands { IfOk result (λ first. StandsFor H.naming script.now [] first.0.site (skips first.0.site.world)) }
         ensures labels { IfOk result (λ first. AreLabels H.naming first.1.entries (reverse script.now.lines)) }
         ensures fault { IfErr result (IsClashOf H.naming (start_strings H.naming script.now)) }
     {
@@ -46,11 +46,7 @@ impl<H: Hash160 + Drop> State<H> {
         let mut site = Site::open(alloc, hash, &script.setup)?;
         holds_empty(&site, script);
         let labels = name_labels(alloc, &mut site, script.lines.as_slice())?;
-        let skips = Skips {
-            muted: Vec::new(alloc),
-            lost: Vec::new(alloc),
-        };
-        Ok((State { alloc, site, skips }, labels))
+        Ok((State { alloc, site }, labels))
     }
 }
 

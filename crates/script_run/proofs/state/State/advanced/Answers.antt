@@ -9,13 +9,14 @@ use Rattle.script_run.specs.States.{lines_before, namings_for}
 use Rattle.text_model.specs.Events.{ring_for, events_of, world_of}
 use Rattle.script_run.proofs.Coming.{comes, events_next}
 use Rattle.script_run.proofs.Faults.{not_ended}
+use Rattle.ring_world.specs.Skipping.{skips as skips_of}
 use Rattle.script_run.proofs.state.State.advanced.Goals as goal
 
 pub step-requires : goal.step-requires
 step-requires g c =
     let h = g.H.Hash160.naming in
     let script = c.args.script.now in
-    let found = comes c.lines_fit_in_turn.ensures.turn c.events_come_of_lines.ensures c.events_may_come.ensures c.setups_join.ensures.sound h script c.args.at c.args.event c.args.self.site c.args.self.skips c.requires in
+    let found = comes c.lines_fit_in_turn.ensures.turn c.events_come_of_lines.ensures c.events_may_come.ensures c.setups_join.ensures.sound h script c.args.at c.args.event c.args.self.site (skips_of c.args.self.site.world) c.requires in
     let events = events_of h script (lines_before script c.args.at) in
     let here : WorldStands NodeStands (ring_for h script) (namings_for h script) c.world.result.now events =
     subst (λ (w : World Node). WorldStands NodeStands (ring_for h script) (namings_for h script) w events) (sym c.world.ensures.world) c.requires.turn.stands.stands in
@@ -28,7 +29,7 @@ pub returns-in-Err-clause-fault : goal.returns-in-Err-clause-fault
 returns-in-Err-clause-fault g c =
     let h = g.H.Hash160.naming in
     let script = c.args.script.now in
-    let found = comes c.lines_fit_in_turn.ensures.turn c.events_come_of_lines.ensures c.events_may_come.ensures c.setups_join.ensures.sound h script c.args.at c.args.event c.args.self.site c.args.self.skips c.requires in
+    let found = comes c.lines_fit_in_turn.ensures.turn c.events_come_of_lines.ensures c.events_may_come.ensures c.setups_join.ensures.sound h script c.args.at c.args.event c.args.self.site (skips_of c.args.self.site.world) c.requires in
     let earlier = lines_before script c.args.at in
     let ring = (c.setups_join.ensures.sound h script c.requires.turn.within.setup).0 in
     let stands = c.requires.turn.stands.stands in (
@@ -42,9 +43,9 @@ pub returns-in-Ok-clause-stands : goal.returns-in-Ok-clause-stands
 returns-in-Ok-clause-stands g c =
     let h = g.H.Hash160.naming in
     let script = c.args.script.now in
-    let found = comes c.lines_fit_in_turn.ensures.turn c.events_come_of_lines.ensures c.events_may_come.ensures c.setups_join.ensures.sound h script c.args.at c.args.event c.args.self.site c.args.self.skips c.requires in
+    let found = comes c.lines_fit_in_turn.ensures.turn c.events_come_of_lines.ensures c.events_may_come.ensures c.setups_join.ensures.sound h script c.args.at c.args.event c.args.self.site (skips_of c.args.self.site.world) c.requires in
     subst (WorldStands NodeStands (ring_for h script) (namings_for h script) c.step.new.self.world)
-    (sym (events_next h script c.args.at c.requires.line c.args.event c.args.self.site c.args.self.skips c.requires.turn found))
+    (sym (events_next h script c.args.at c.requires.line c.args.event c.args.self.site (skips_of c.args.self.site.world) c.requires.turn found))
     (c.in-Ok.ensures.stands (ring_for h script) (namings_for h script) (events_of h script (lines_before script c.args.at)) (c.setups_join.ensures.sound h script c.requires.turn.within.setup).0 c.requires.turn.stands.stands
     found.may_happen)
 
@@ -52,6 +53,6 @@ pub returns-in-Ok-clause-grew : goal.returns-in-Ok-clause-grew
 returns-in-Ok-clause-grew g c =
     let h = g.H.Hash160.naming in
     let script = c.args.script.now in
-    let found = comes c.lines_fit_in_turn.ensures.turn c.events_come_of_lines.ensures c.events_may_come.ensures c.setups_join.ensures.sound h script c.args.at c.args.event c.args.self.site c.args.self.skips c.requires in
+    let found = comes c.lines_fit_in_turn.ensures.turn c.events_come_of_lines.ensures c.events_may_come.ensures c.setups_join.ensures.sound h script c.args.at c.args.event c.args.self.site (skips_of c.args.self.site.world) c.requires in
     c.step.ensures.grew (ring_for h script) (namings_for h script) (events_of h script (lines_before script c.args.at)) (c.setups_join.ensures.sound h script c.requires.turn.within.setup).0 c.requires.turn.stands.stands
     found.may_happen

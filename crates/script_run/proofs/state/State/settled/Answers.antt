@@ -5,14 +5,15 @@ use Rattle.pond_world.proofs.Sites.{named_clash}
 use Rattle.pond_world.specs.Sites.{SiteView}
 use Rattle.ring_model.specs.Laws.{NoClash}
 use Rattle.ring_world.specs.Deliveries.{IsNamedIn}
-use Rattle.ring_world.specs.Skipping.{is_skipped}
-use Rattle.ring_world.specs.declared.skips.Skips.{Skips}
+use Rattle.ring_mail.specs.Skips.{is_skipped}
+use Rattle.ring_mail.specs.Skips.{Skips}
 use Rattle.ring_world.specs.declared.state.World.{World}
 use Rattle.ring_world.specs.Worlds.{WorldStands}
 use Rattle.script_terms.specs.declared.line.Line.TheVariants.{Settle}
 use Rattle.text_model.specs.Events.{ring_for, events_of, world_of, most_messages}
-use Rattle.script_run.specs.States.{lines_before, namings_for}
+use Rattle.script_run.specs.States.{StandsNext, lines_before, namings_for}
 use Rattle.script_run.proofs.Settling.{settle_named, settle_stands, settled_next, clash_here}
+use Rattle.ring_world.specs.Skipping.{skips as skips_of}
 use Rattle.script_run.proofs.state.State.settled.Goals as goal
 
 pub returns-in-Err-clause-fault : goal.returns-in-Err-clause-fault
@@ -21,7 +22,7 @@ returns-in-Err-clause-fault g c =
     let script = c.args.script.now in
     let at = c.args.at in
     let site : SiteView = c.args.self.site in
-    let skips : Skips = c.args.self.skips in
+    let skips : Skips = skips_of c.args.self.site.world in
     let ring = (c.setups_join.ensures.sound h script c.requires.within.setup).0 in
     let events = events_of h script (lines_before script at) in
     let here : WorldStands NodeStands (ring_for h script) (namings_for h script) c.world.result.now events =
@@ -41,7 +42,7 @@ returns-in-Ok-clause-stands g c =
     let script = c.args.script.now in
     let at = c.args.at in
     let site : SiteView = c.args.self.site in
-    let skips : Skips = c.args.self.skips in
+    let skips : Skips = skips_of c.args.self.site.world in
     let ring = (c.setups_join.ensures.sound h script c.requires.within.setup).0 in
     let events = events_of h script (lines_before script at) in
     let here : WorldStands NodeStands (ring_for h script) (namings_for h script) c.world.result.now events =
@@ -51,7 +52,8 @@ returns-in-Ok-clause-stands g c =
     let few : c.in-Ok.field-0 ≤ most_messages = search rules in
     let settles = c.in-Ok.ensures.settles (ring_for h script) (namings_for h script) events ring c.requires.stands.stands in
     let stands = settle_stands c.skips_join.ensures c.settled_joins.ensures.joins h script at site skips now c.in-Ok.field-0 c.requires few settles in
-    settled_next h script at site now skips (IsNamedIn (ring_for h script) (namings_for h script) (is_skipped skips) events) c.requires stands
+    subst (λ (left : Skips). StandsNext h script at now left) (sym c.settle.ensures.skips)
+    (settled_next h script at site now skips (IsNamedIn (ring_for h script) (namings_for h script) (is_skipped skips) events) c.requires stands
     (c.settle.ensures.grew (ring_for h script) (namings_for h script) events ring c.requires.stands.stands)
     (settle_named c.submits_are_requests.ensures.strings c.skips_join.ensures c.settles_are_named.ensures h script at site skips c.requires apart)
-    (c.holds_committed.ensures ((c.requires.number, Settle) ∷ lines_before script at) stands c.requires.within)
+    (c.holds_committed.ensures ((c.requires.number, Settle) ∷ lines_before script at) stands c.requires.within))
