@@ -9,7 +9,7 @@ use guarded_update::Setup;
 use pond_base::{ClientId, Items};
 use pond_node::Node;
 use pond_world::open;
-use ring_world::{Event, Said, Skips, World};
+use ring_world::{Event, Said, World};
 use std::alloc::Global;
 use std::test::Fail;
 
@@ -107,11 +107,7 @@ fn settle<H: Hash160 + Drop>(
     requires { world.old.ended ≡ false → IsKnown node.IsKnown H.naming book.old.held world.old }
     ensures { OnOk result (world.new.ended ≡ false → IsKnown node.IsKnown H.naming book.new.held world.new) }
 {
-    let skips = Skips {
-        muted: Vec::new(alloc),
-        lost: Vec::new(alloc),
-    };
-    match world.settle(book, &skips) {
+    match world.settle(book) {
         Ok(_) => text(alloc, "settled"),
         Err(fault) => fault_text(alloc, fault),
     }

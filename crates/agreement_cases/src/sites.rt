@@ -7,7 +7,7 @@ use bytes::Bytes;
 use guarded_update::Setup;
 use pond_base::{ClientId, Items, MemberId, Party};
 use pond_world::{Site, events_may_come, ring_is_sound, worlds_stay_known};
-use ring_world::{Event, Said, Skips};
+use ring_world::{Event, Said};
 use std::alloc::Global;
 use std::test::Fail;
 
@@ -182,13 +182,12 @@ fn amount(namings: u64) -> &'static str {
 }
 
 fn settle(alloc: Global, site: &mut Site<Sha1Hash>) -> Result<String, Fail> {
-    let skips = Skips {
-        muted: Vec::new(alloc),
-        lost: Vec::new(alloc),
-    };
     let before = site.book().namings();
-    site.settle(&skips)?;
-    text(alloc, amount(site.book().namings().saturating_sub(before)))
+    site.settle()?;
+    text(
+        alloc,
+        amount(site.book().namings().saturating_sub(before)),
+    )
 }
 
 fn name(alloc: Global, site: &mut Site<Sha1Hash>, digits: &str) -> Result<String, Fail> {

@@ -4,7 +4,7 @@ use bytes::Bytes;
 use guarded_update::{Action, Clause, Setup, Update};
 use pond_base::{ClientId, Items, Label, MemberId};
 use pond_world::Site;
-use ring_world::{Event, Skips};
+use ring_world::Event;
 use std::alloc::Global;
 
 /// What became of the requests that were handed in.
@@ -88,11 +88,7 @@ fn fewest(site: &Site<Sha1Hash>) -> Option<u32> {
 pub fn feed(alloc: Global, requests: u32) -> Option<Fed> {
     let mut site = open(alloc)?;
     submit(alloc, &mut site, requests)?;
-    let none = Skips {
-        muted: Vec::new(alloc),
-        lost: Vec::new(alloc),
-    };
-    let deliveries = site.settle(&none).ok()?;
+    let deliveries = site.settle().ok()?;
     Some(Fed {
         requests,
         deliveries,
