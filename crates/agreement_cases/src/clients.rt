@@ -1,11 +1,12 @@
 // What a client sends, and what it believes of what members tell it.
+use crate::telling::{
+    Broken, add, add_number, bytes_of, decoded, digits_of, digits_of_name, line, same,
+};
 use block_names::{Book, Sha1Hash};
-use bytes::Bytes;
 use client_core::Client;
 use pond_base::{ClientId, MemberId, Name, Party, Version};
 use ring_message::{Out, Outcome};
 use std::alloc::Global;
-use std::test::Fail;
 
 const M0: Party = Party::Member(MemberId(0));
 
@@ -97,24 +98,24 @@ fn submit(
     client: &mut Client,
     book: &mut Book<Sha1Hash>,
     digits: &str,
-) -> Result<Vec<Out>, Fail> {
-    let string = hex::decode(alloc, digits)?;
+) -> Result<Vec<Out>, Broken> {
+    let string = decoded(alloc, digits)?;
     let request = guarded_update::read(alloc, string.as_slice())?;
     if client.submitted() >= 65_536 || !guarded_update::update_fits(&request.update) {
-        return Err(Fail::new("no request"));
+        return Err(Broken::Unfit);
     }
     Ok(client.submit(book, request.label, request.update)?)
 }
 
-fn resubmit(client: &Client, number: u32) -> Result<Vec<Out>, Fail> {
+fn resubmit(client: &Client, number: u32) -> Result<Vec<Out>, Broken> {
     if number < 1 || number > client.submitted() {
-        return Err(Fail::new("no request"));
+        return Err(Broken::Unfit);
     }
     Ok(client.resubmit(number)?)
 }
 
-fn take(alloc: Global, client: &mut Client, from: Party, digits: &str) -> Result<Vec<Out>, Fail> {
-    let bytes = Bytes::from_vec(hex::decode(alloc, digits)?)?;
+fn take(alloc: Global, client: &mut Client, from: Party, digits: &str) -> Result<Vec<Out>, Broken> {
+    let bytes = bytes_of(alloc, digits)?;
     client.take(from, &bytes)?;
     Ok(Vec::new(alloc))
 }
@@ -124,7 +125,7 @@ fn after(
     client: &mut Client,
     book: &mut Book<Sha1Hash>,
     step: &Step,
-) -> Result<Vec<Out>, Fail> {
+) -> Result<Vec<Out>, Broken> {
     match step {
         Step::Take(from, digits) => take(alloc, client, *from, digits),
         Step::Submit(digits) => submit(alloc, client, book, digits),
@@ -132,37 +133,40 @@ fn after(
     }
 }
 
-fn sent_line(alloc: Global, out: &Out) -> Result<String, Fail> {
-    let digits = hex::encode(alloc, out.bytes.as_slice())?;
+fn add_sent(alloc: Global, text: &mut String, out: &Out) -> Result<(), Broken> {
     match out.to {
-        Party::Member(member) => Ok(format!(in alloc; "m{} {digits}\n", member.0)?),
-        Party::Client(_) => Err(Fail::new("to a client")),
+        Party::Member(member) => add_number(alloc, text, "m", member.0 as u64)?,
+        Party::Client(_) => return Err(Broken::Unfit),
     }
+    text.push_str(" ")?;
+    add(text, digits_of(alloc, out.bytes.as_slice()))?;
+    text.push_str("\n")?;
+    Ok(())
 }
 
-fn tell_sent(alloc: Global, outs: &[Out], text: &mut String) -> Result<(), Fail> {
+fn tell_sent(alloc: Global, outs: &[Out], text: &mut String) -> Result<(), Broken> {
     for out in outs {
-        text.push_str(sent_line(alloc, out)?.as_str())?;
+        add_sent(alloc, text, out)?;
     }
     Ok(())
 }
 
 // A number and a name after a word.
-fn marked(alloc: Global, word: &str, number: u32, name: Name) -> Result<String, Fail> {
-    let digits = hex::encode(alloc, name.bytes().as_slice())?;
-    Ok(format!(in alloc; "{word} {number} {digits}\n")?)
+fn marked(alloc: Global, word: &str, value: u32, name: Name) -> Result<String, Broken> {
+    let mut text = line(alloc, word)?;
+    add_number(alloc, &mut text, " ", value as u64)?;
+    text.push_str(" ")?;
+    add(&mut text, digits_of_name(alloc, name))?;
+    text.push_str("\n")?;
+    Ok(text)
 }
 
-fn line(alloc: Global, text: &str) -> Result<String, Fail> {
-    Ok(format!(in alloc; "{text}\n")?)
-}
-
-fn outcome_line(alloc: Global, outcome: Option<&Outcome>) -> Result<String, Fail> {
+fn outcome_line(alloc: Global, outcome: Option<&Outcome>) -> Result<String, Broken> {
     match outcome {
         Some(Outcome::Made { version, name }) => marked(alloc, "made", version.0, *name),
-        Some(Outcome::Repeat) => line(alloc, "repeat"),
-        Some(_) => Err(Fail::new("another outcome")),
-        None => line(alloc, "none"),
+        Some(Outcome::Repeat) => line(alloc, "repeat\n"),
+        Some(_) => Err(Broken::Unfit),
+        None => line(alloc, "none\n"),
     }
 }
 
@@ -172,65 +176,92 @@ fn run(
     book: &mut Book<Sha1Hash>,
     steps: &[Step],
     text: &mut String,
-) -> Result<(), Fail> {
+) -> Result<(), Broken> {
     for step in steps {
-        let outs = after(alloc, client, book, step)?;
-        tell_sent(alloc, outs.as_slice(), text)?;
-        text.push_str(outcome_line(alloc, client.outcome(1))?.as_str())?;
+        run_step(alloc, client, book, step, text)?;
     }
     Ok(())
 }
 
-fn request(alloc: Global, client: &Client, number: u32) -> Result<String, Fail> {
+fn run_step(
+    alloc: Global,
+    client: &mut Client,
+    book: &mut Book<Sha1Hash>,
+    step: &Step,
+    text: &mut String,
+) -> Result<(), Broken> {
+    let outs = after(alloc, client, book, step)?;
+    tell_sent(alloc, outs.as_slice(), text)?;
+    add(text, outcome_line(alloc, client.outcome(1)))
+}
+
+fn request(alloc: Global, client: &Client, number: u32) -> Result<String, Broken> {
     match client.request(number) {
-        Some(string) => Ok(hex::encode(alloc, string.as_slice())?),
-        None => Ok(String::from_str(alloc, "none")?),
+        Some(string) => digits_of(alloc, string.as_slice()),
+        None => line(alloc, "none"),
     }
 }
 
-fn tell_requests(alloc: Global, client: &Client, text: &mut String) -> Result<(), Fail> {
-    let count = format!(in alloc; "{}", client.submitted())?;
-    text.push_str(count.as_str())?;
+fn tell_requests(alloc: Global, client: &Client, text: &mut String) -> Result<(), Broken> {
+    add_number(alloc, text, "", client.submitted() as u64)?;
     for number in 0..3 {
         text.push_str(" ")?;
-        text.push_str(request(alloc, client, number)?.as_str())?;
+        add(text, request(alloc, client, number))?;
     }
     text.push_str("\n")?;
     Ok(())
 }
 
-fn newest(alloc: Global, word: &str, newest: Option<(Version, Name)>) -> Result<String, Fail> {
+fn add_newest(
+    alloc: Global,
+    text: &mut String,
+    word: &str,
+    newest: Option<(Version, Name)>,
+) -> Result<(), Broken> {
     match newest {
-        Some((version, name)) => marked(alloc, word, version.0, name),
-        None => Ok(format!(in alloc; "{word} none\n")?),
+        Some((version, name)) => add(text, marked(alloc, word, version.0, name)),
+        None => add_none(text, word),
     }
 }
 
-fn tell_versions(alloc: Global, client: &Client, text: &mut String) -> Result<(), Fail> {
-    let object = Name::from_bytes([1; 20]);
-    text.push_str(outcome_line(alloc, client.outcome(2))?.as_str())?;
-    text.push_str(newest(alloc, "heart", client.hearts().newest(object))?.as_str())?;
-    text.push_str(newest(alloc, "seal", client.seals().newest(object))?.as_str())?;
+fn add_none(text: &mut String, word: &str) -> Result<(), Broken> {
+    text.push_str(word)?;
+    text.push_str(" none\n")?;
     Ok(())
 }
 
-fn told(alloc: Global, id: u8, f: u8, steps: &[Step]) -> Result<String, Fail> {
-    if id > 15 || f > 3 {
-        return Err(Fail::new("no such client"));
-    }
+fn tell_versions(alloc: Global, client: &Client, text: &mut String) -> Result<(), Broken> {
+    let object = Name::from_bytes([1; 20]);
+    add(text, outcome_line(alloc, client.outcome(2)))?;
+    add_newest(alloc, text, "heart", client.hearts().newest(object))?;
+    add_newest(alloc, text, "seal", client.seals().newest(object))
+}
+
+fn tell(
+    alloc: Global,
+    client: &mut Client,
+    book: &mut Book<Sha1Hash>,
+    steps: &[Step],
+) -> Result<String, Broken> {
     let mut text = String::new(alloc);
-    let mut book = Book::new(alloc, Sha1Hash);
-    let mut client = Client::new(alloc, ClientId(id), f)?;
-    run(alloc, &mut client, &mut book, steps, &mut text)?;
-    tell_requests(alloc, &client, &mut text)?;
-    tell_versions(alloc, &client, &mut text)?;
+    run(alloc, client, book, steps, &mut text)?;
+    tell_requests(alloc, client, &mut text)?;
+    tell_versions(alloc, client, &mut text)?;
     Ok(text)
 }
 
-#[test]
-fn cases(rt: HostRuntime) -> Result<(), Fail> {
-    for (id, f, steps, wanted) in CASES {
-        assert_eq!(rt; told(rt.alloc(), *id, *f, steps)?.as_str(), *wanted);
+fn told(alloc: Global, id: u8, f: u8, steps: &[Step]) -> Result<String, Broken> {
+    if id > 15 || f > 3 {
+        return Err(Broken::Unfit);
     }
-    Ok(())
+    let mut book = Book::new(alloc, Sha1Hash);
+    let mut client = Client::new(alloc, ClientId(id), f)?;
+    tell(alloc, &mut client, &mut book, steps)
+}
+
+#[test]
+fn cases(rt: HostRuntime) {
+    for (id, f, steps, text) in CASES {
+        same(&rt, told(rt.alloc(), *id, *f, steps), text);
+    }
 }

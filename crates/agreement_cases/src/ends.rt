@@ -4,14 +4,14 @@ ghost use Rattle.pond_node.specs.Standing as node;
 ghost use Rattle.pond_world.specs.Setups.{IsSetup};
 ghost use Rattle.ring_world.specs.Worlds.{IsKnown};
 
+use crate::telling::{Broken, add, add_number, decoded, digits_of, line, same, truth};
 use block_names::{Book, FoldHash, Hash160, StepFault};
 use guarded_update::Setup;
 use pond_base::{ClientId, Items};
 use pond_node::Node;
 use pond_world::open;
-use ring_world::{Event, Said, Skips, World};
+use ring_world::{Event, Said, World};
 use std::alloc::Global;
-use std::test::Fail;
 
 // Appends of 61ee to `a` and of ee61 to `b`, a settle where there is no request, another settle, and an
 // append of 61.
@@ -46,8 +46,8 @@ fn setup(alloc: Global) -> Setup
     }
 }
 
-fn submit(alloc: Global, digits: &str) -> Result<Event, Fail> {
-    let string = hex::decode(alloc, digits)?;
+fn submit(alloc: Global, digits: &str) -> Result<Event, Broken> {
+    let string = decoded(alloc, digits)?;
     let request = guarded_update::read(alloc, string.as_slice())?;
     Ok(Event::Submit {
         client: ClientId(0),
@@ -56,29 +56,33 @@ fn submit(alloc: Global, digits: &str) -> Result<Event, Fail> {
     })
 }
 
-fn text(alloc: Global, text: &str) -> Result<String, Fail> {
-    Ok(String::from_str(alloc, text)?)
+fn clash(alloc: Global, old: &[u8], new: &[u8]) -> Result<String, Broken> {
+    let mut text = line(alloc, "clash ")?;
+    add(&mut text, digits_of(alloc, old))?;
+    text.push_str(" ")?;
+    add(&mut text, digits_of(alloc, new))?;
+    Ok(text)
 }
 
-fn clash(alloc: Global, old: &[u8], new: &[u8]) -> Result<String, Fail> {
-    let old = hex::encode(alloc, old)?;
-    let new = hex::encode(alloc, new)?;
-    Ok(format!(in alloc; "clash {old} {new}")?)
-}
-
-fn fault_text(alloc: Global, fault: StepFault) -> Result<String, Fail> {
+fn fault_text(alloc: Global, fault: StepFault) -> Result<String, Broken> {
     match fault {
         StepFault::Clash { old, new } => clash(alloc, old.as_slice(), new.as_slice()),
-        StepFault::Ended => text(alloc, "ended"),
-        StepFault::Memory => Err(Fail::new("memory ran out")),
+        StepFault::Ended => line(alloc, "ended"),
+        StepFault::Memory => Err(Broken::Memory),
     }
 }
 
-fn said_text(alloc: Global, said: Said) -> Result<String, Fail> {
+fn said_text(alloc: Global, said: Said) -> Result<String, Broken> {
     match said {
-        Said::Nothing => text(alloc, "nothing"),
-        Said::Sent(count) => Ok(format!(in alloc; "sent {count}")?),
+        Said::Nothing => line(alloc, "nothing"),
+        Said::Sent(count) => sent(alloc, count as u64),
     }
+}
+
+fn sent(alloc: Global, count: u64) -> Result<String, Broken> {
+    let mut text = String::new(alloc);
+    add_number(alloc, &mut text, "sent ", count)?;
+    Ok(text)
 }
 
 fn happens<H: Hash160 + Drop>(
@@ -86,12 +90,12 @@ fn happens<H: Hash160 + Drop>(
     world: &mut World<Node>,
     book: &mut Book<H>,
     event: Event,
-) -> Result<String, Fail>
+) -> Result<String, Broken>
     requires { world.old.ended ≡ false → IsKnown node.IsKnown H.naming book.old.held world.old }
     ensures { OnOk result (world.new.ended ≡ false → IsKnown node.IsKnown H.naming book.new.held world.new) }
 {
     if !world.may(&event) {
-        return Err(Fail::new("no such event"));
+        return Err(Broken::Unfit);
     }
     match world.step(book, event) {
         Ok(said) => said_text(alloc, said),
@@ -103,16 +107,12 @@ fn settle<H: Hash160 + Drop>(
     alloc: Global,
     world: &mut World<Node>,
     book: &mut Book<H>,
-) -> Result<String, Fail>
+) -> Result<String, Broken>
     requires { world.old.ended ≡ false → IsKnown node.IsKnown H.naming book.old.held world.old }
     ensures { OnOk result (world.new.ended ≡ false → IsKnown node.IsKnown H.naming book.new.held world.new) }
 {
-    let skips = Skips {
-        muted: Vec::new(alloc),
-        lost: Vec::new(alloc),
-    };
-    match world.settle(book, &skips) {
-        Ok(_) => text(alloc, "settled"),
+    match world.settle(book) {
+        Ok(_) => line(alloc, "settled"),
         Err(fault) => fault_text(alloc, fault),
     }
 }
@@ -122,7 +122,7 @@ fn answer<H: Hash160 + Drop>(
     world: &mut World<Node>,
     book: &mut Book<H>,
     digits: &str,
-) -> Result<String, Fail>
+) -> Result<String, Broken>
     requires { world.old.ended ≡ false → IsKnown node.IsKnown H.naming book.old.held world.old }
     ensures { OnOk result (world.new.ended ≡ false → IsKnown node.IsKnown H.naming book.new.held world.new) }
 {
@@ -132,8 +132,13 @@ fn answer<H: Hash160 + Drop>(
     happens(alloc, world, book, submit(alloc, digits)?)
 }
 
-fn line(alloc: Global, answer: &str, ended: bool, named: bool) -> Result<String, Fail> {
-    Ok(format!(in alloc; "{answer} ended {ended} named {named}\n")?)
+fn add_ends(text: &mut String, ended: bool, named: bool) -> Result<(), Broken> {
+    text.push_str(" ended ")?;
+    text.push_str(truth(ended))?;
+    text.push_str(" named ")?;
+    text.push_str(truth(named))?;
+    text.push_str("\n")?;
+    Ok(())
 }
 
 fn run<H: Hash160 + Drop>(
@@ -142,33 +147,37 @@ fn run<H: Hash160 + Drop>(
     book: &mut Book<H>,
     steps: &[&str],
     text: &mut String,
-) -> Result<(), Fail>
+) -> Result<(), Broken>
     requires { world.old.ended ≡ false → IsKnown node.IsKnown H.naming book.old.held world.old }
 {
     for step in steps {
         let before = book.namings();
         let answer = answer(alloc, world, book, step)?;
-        let line = line(
-            alloc,
-            answer.as_str(),
-            world.ended(),
-            book.namings() > before,
-        )?;
-        text.push_str(line.as_str())?;
+        text.push_str(answer.as_str())?;
+        add_ends(text, world.ended(), book.namings() > before)?;
     }
     Ok(())
 }
 
-fn told(alloc: Global) -> Result<String, Fail> {
+fn tell<H: Hash160 + Drop>(
+    alloc: Global,
+    world: &mut World<Node>,
+    book: &mut Book<H>,
+) -> Result<String, Broken>
+    requires { world.old.ended ≡ false → IsKnown node.IsKnown H.naming book.old.held world.old }
+{
     let mut text = String::new(alloc);
-    let mut book = Book::new(alloc, FoldHash);
-    let mut world = open(alloc, &mut book, &setup(alloc))?;
-    run(alloc, &mut world, &mut book, STEPS, &mut text)?;
+    run(alloc, world, book, STEPS, &mut text)?;
     Ok(text)
 }
 
+fn told(alloc: Global) -> Result<String, Broken> {
+    let mut book = Book::new(alloc, FoldHash);
+    let mut world = open(alloc, &mut book, &setup(alloc))?;
+    tell(alloc, &mut world, &mut book)
+}
+
 #[test]
-fn clash_at_execution(rt: HostRuntime) -> Result<(), Fail> {
-    assert_eq!(rt; told(rt.alloc())?.as_str(), TEXT);
-    Ok(())
+fn clash_at_execution(rt: HostRuntime) {
+    same(&rt, told(rt.alloc()), TEXT);
 }

@@ -4,6 +4,8 @@
 #[cfg(test)]
 mod clients;
 #[cfg(test)]
+mod coming;
+#[cfg(test)]
 mod ends;
 #[cfg(test)]
 mod members;
@@ -11,5 +13,7 @@ mod members;
 mod orders;
 #[cfg(test)]
 mod sites;
+#[cfg(test)]
+mod telling;
 #[cfg(test)]
 mod votes;

@@ -1,5 +1,6 @@
 // Messages that one member takes, with what it owes for each. Names are SHA-1 digests, from another
 // program.
+use crate::telling::{Broken, add, add_number, bytes_of, digits_of, line, same};
 use block_names::{Book, Sha1Hash};
 use bytes::Bytes;
 use pond_base::{ClientId, MemberId, Party, Seq};
@@ -7,7 +8,6 @@ use ring_member::Member;
 use ring_message::Out;
 use std::alloc::Global;
 use std::process::Abort;
-use std::test::Fail;
 
 const M0: Party = Party::Member(MemberId(0));
 
@@ -179,9 +179,10 @@ const FOREIGN: &[(&str, &str)] = &[
     ("1200000001", "06"),
 ];
 
-fn joined(alloc: Global, head: &str, rest: &str) -> Result<Bytes, Fail> {
-    let digits = format!(in alloc; "{head}{rest}")?;
-    Ok(Bytes::from_vec(hex::decode(alloc, digits.as_str())?)?)
+fn joined(alloc: Global, head: &str, rest: &str) -> Result<Bytes, Broken> {
+    let mut digits = line(alloc, head)?;
+    digits.push_str(rest)?;
+    bytes_of(alloc, digits.as_str())
 }
 
 // Hands bytes to a member, and answers what it sends.
@@ -190,69 +191,91 @@ fn hand(
     book: &mut Book<Sha1Hash>,
     from: Party,
     bytes: &Bytes,
-) -> Result<Vec<Out>, Fail> {
+) -> Result<Vec<Out>, Broken> {
     Ok(member.take(book, from, bytes)?)
 }
 
-// A message to a member as a line.
-fn line(alloc: Global, to: u8, head: &str, rest: &str) -> Result<String, Fail> {
-    Ok(format!(in alloc; "m{to} {head}{rest}\n")?)
+// Adds a message to a member as a line.
+fn add_line(
+    alloc: Global,
+    text: &mut String,
+    to: u8,
+    head: &str,
+    rest: &str,
+) -> Result<(), Broken> {
+    add_number(alloc, text, "m", to as u64)?;
+    text.push_str(" ")?;
+    text.push_str(head)?;
+    text.push_str(rest)?;
+    text.push_str("\n")?;
+    Ok(())
 }
 
-fn sent_line(alloc: Global, out: &Out) -> Result<String, Fail> {
-    let digits = hex::encode(alloc, out.bytes.as_slice())?;
+fn add_sent(alloc: Global, text: &mut String, out: &Out) -> Result<(), Broken> {
+    let digits = digits_of(alloc, out.bytes.as_slice())?;
     match out.to {
-        Party::Member(member) => line(alloc, member.0, digits.as_str(), ""),
-        Party::Client(_) => Err(Fail::new("to a client")),
+        Party::Member(member) => add_line(alloc, text, member.0, digits.as_str(), ""),
+        Party::Client(_) => Err(Broken::Unfit),
     }
 }
 
-fn sent(alloc: Global, outs: &[Out]) -> Result<String, Fail> {
+fn sent(alloc: Global, outs: &[Out]) -> Result<String, Broken> {
     let mut text = String::new(alloc);
     for out in outs {
-        text.push_str(sent_line(alloc, out)?.as_str())?;
+        add_sent(alloc, &mut text, out)?;
     }
     Ok(text)
 }
 
-fn add_to_each(alloc: Global, text: &mut String, head: &str, rest: &str) -> Result<(), Fail> {
+fn add_to_each(alloc: Global, text: &mut String, head: &str, rest: &str) -> Result<(), Broken> {
     for to in 0..4 {
-        text.push_str(line(alloc, to, head, rest)?.as_str())?;
+        add_line(alloc, text, to, head, rest)?;
     }
     Ok(())
 }
 
-// The messages, each to each of four members.
-fn to_each(alloc: Global, messages: &[(&str, &str)]) -> Result<String, Fail> {
+// The messages, each to each of four members, and then two counts.
+fn wanted_text(
+    alloc: Global,
+    messages: &[(&str, &str)],
+    executed: u32,
+    kept: u32,
+) -> Result<String, Broken> {
     let mut text = String::new(alloc);
     for (head, rest) in messages {
         add_to_each(alloc, &mut text, head, rest)?;
     }
+    add_counts(alloc, &mut text, executed, kept)?;
     Ok(text)
 }
 
+fn add_counts(alloc: Global, text: &mut String, executed: u32, kept: u32) -> Result<(), Broken> {
+    add_number(alloc, text, "executed ", executed as u64)?;
+    add_number(alloc, text, " kept ", kept as u64)
+}
+
 // The request of a slot, or none.
-fn request(alloc: Global, member: &Member, seq: usize) -> Result<String, Fail> {
+fn request(alloc: Global, member: &Member, seq: usize) -> Result<String, Broken> {
     if seq > 65_536 {
-        return Err(Fail::new("no slot"));
+        return Err(Broken::Unfit);
     }
     match member.request(Seq(seq as u32)) {
-        Some(string) => Ok(hex::encode(alloc, string.as_slice())?),
-        None => Ok(String::from_str(alloc, "none")?),
+        Some(string) => digits_of(alloc, string.as_slice()),
+        None => line(alloc, "none"),
     }
 }
 
 // The requests of as many slots from 0 on, one behind the other.
-fn requests(alloc: Global, member: &Member, count: usize) -> Result<String, Fail> {
+fn requests(alloc: Global, member: &Member, count: usize) -> Result<String, Broken> {
     let mut text = String::new(alloc);
     for seq in 0..count {
-        text.push_str(request(alloc, member, seq)?.as_str())?;
+        add(&mut text, request(alloc, member, seq))?;
         text.push_str(" ")?;
     }
     Ok(text)
 }
 
-fn words(alloc: Global, words: &[&str]) -> Result<String, Fail> {
+fn words(alloc: Global, words: &[&str]) -> Result<String, Broken> {
     let mut text = String::new(alloc);
     for word in words {
         text.push_str(word)?;
@@ -262,16 +285,36 @@ fn words(alloc: Global, words: &[&str]) -> Result<String, Fail> {
 }
 
 // Hands the bytes of a row to a member, and tells what it sends.
+fn told_sent(
+    alloc: Global,
+    member: &mut Member,
+    book: &mut Book<Sha1Hash>,
+    from: Party,
+    pieces: (&str, &str),
+) -> Result<String, Broken> {
+    let bytes = joined(alloc, pieces.0, pieces.1)?;
+    let outs = hand(member, book, from, &bytes)?;
+    sent(alloc, outs.as_slice())
+}
+
+// The same, and how many requests are executed, and of how many slots something is kept then.
 fn told(
     alloc: Global,
     member: &mut Member,
     book: &mut Book<Sha1Hash>,
     from: Party,
     pieces: (&str, &str),
-) -> Result<String, Fail> {
-    let bytes = joined(alloc, pieces.0, pieces.1)?;
-    let outs = hand(member, book, from, &bytes)?;
-    sent(alloc, outs.as_slice())
+) -> Result<String, Broken> {
+    let mut text = told_sent(alloc, member, book, from, pieces)?;
+    add_counts(alloc, &mut text, member.executed(), member.kept_slots())?;
+    Ok(text)
+}
+
+fn is_wanted(rt: &impl Abort, told: Result<String, Broken>, wanted: Result<String, Broken>) {
+    match wanted {
+        Ok(text) => same(rt, told, text.as_str()),
+        Err(_) => same(rt, wanted, "what is wanted"),
+    }
 }
 
 // What is told of each row of a case, and is wanted.
@@ -281,63 +324,52 @@ fn run(
     member: &mut Member,
     book: &mut Book<Sha1Hash>,
     rows: &[Row],
-) -> Result<(), Fail> {
-    for (from, pieces, wanted, executed, kept) in rows {
-        let text = told(alloc, member, book, *from, *pieces)?;
-        assert_eq!(rt; text.as_str(), to_each(alloc, wanted)?.as_str());
-        assert_eq!(rt;
-            (member.executed(), member.kept_slots()),
-            (*executed, *kept)
-        );
+) {
+    for (from, pieces, messages, executed, kept) in rows {
+        let wanted = wanted_text(alloc, messages, *executed, *kept);
+        is_wanted(rt, told(alloc, member, book, *from, *pieces), wanted);
     }
-    Ok(())
 }
 
-fn run_case(
-    rt: &impl Abort,
-    alloc: Global,
-    id: u8,
-    rows: &[Row],
-    slots: &[&str],
-) -> Result<(), Fail> {
+fn run_case(rt: &impl Abort, alloc: Global, id: u8, rows: &[Row], slots: &[&str]) {
     let mut book = Book::new(alloc, Sha1Hash);
     let mut member = Member::new(alloc, MemberId(id), 1);
-    run(rt, alloc, &mut member, &mut book, rows)?;
-    let text = requests(alloc, &member, slots.len())?;
-    assert_eq!(rt; text.as_str(), words(alloc, slots)?.as_str());
-    Ok(())
+    run(rt, alloc, &mut member, &mut book, rows);
+    is_wanted(
+        rt,
+        requests(alloc, &member, slots.len()),
+        words(alloc, slots),
+    );
 }
 
 #[test]
-fn cases(rt: HostRuntime) -> Result<(), Fail> {
+fn cases(rt: HostRuntime) {
     for (id, rows, slots) in CASES {
-        run_case(&rt, rt.alloc(), *id, rows, slots)?;
+        run_case(&rt, rt.alloc(), *id, rows, slots);
     }
-    Ok(())
 }
 
-// What is sent for foreign bytes of three parties.
+// What is told of foreign bytes of three parties.
 fn foreign(
     alloc: Global,
     member: &mut Member,
     book: &mut Book<Sha1Hash>,
     pieces: (&str, &str),
-) -> Result<String, Fail> {
+) -> Result<String, Broken> {
     let mut text = String::new(alloc);
     for from in [M0, M2, C0] {
-        text.push_str(told(alloc, member, book, from, pieces)?.as_str())?;
+        add(&mut text, told_sent(alloc, member, book, from, pieces))?;
     }
+    add_counts(alloc, &mut text, member.executed(), member.kept_slots())?;
     Ok(text)
 }
 
 #[test]
-fn foreign_bytes_change_nothing(rt: HostRuntime) -> Result<(), Fail> {
+fn foreign_bytes_change_nothing(rt: HostRuntime) {
     let mut book = Book::new(rt.alloc(), Sha1Hash);
     let mut member = Member::new(rt.alloc(), MemberId(1), 1);
     for pieces in FOREIGN {
-        let text = foreign(rt.alloc(), &mut member, &mut book, *pieces)?;
-        assert_eq!(rt; text.as_str(), "");
-        assert_eq!(rt; (member.executed(), member.kept_slots()), (0, 0));
+        let told = foreign(rt.alloc(), &mut member, &mut book, *pieces);
+        same(&rt, told, "executed 0 kept 0");
     }
-    Ok(())
 }

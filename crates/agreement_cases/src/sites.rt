@@ -2,14 +2,13 @@
 ghost use Rattle.std.specs.Prelude.{IfOk};
 ghost use Rattle.pond_world.specs.Setups.{IsSetup};
 
+use crate::telling::{Broken, add, add_number, bytes_of, decoded, line, same};
 use block_names::Sha1Hash;
-use bytes::Bytes;
 use guarded_update::Setup;
 use pond_base::{ClientId, Items, MemberId, Party};
 use pond_world::{Site, events_may_come, ring_is_sound, worlds_stay_known};
-use ring_world::{Event, Said, Skips};
+use ring_world::{Event, Said};
 use std::alloc::Global;
-use std::test::Fail;
 
 // What happens to a site. Client 0 submits the update of a request, or appends so many bytes to `a`.
 enum Step {
@@ -19,7 +18,7 @@ enum Step {
     Deliver(Party, Party, u32),
     Forge(u8, Party, &'static str),
     Settle,
-    // A string is named by the site, and in its book apart from its world.
+    // A string is named by the site, and by one that was taken apart and put together.
     Name(&'static str),
     NameApart(&'static str),
     Namings,
@@ -83,7 +82,7 @@ const CASES: &[(u8, &[u8], &[Step], &str)] = &[
     ),
 ];
 
-fn faulty(alloc: Global, ids: &[u8]) -> Result<Items<MemberId>, Fail> {
+fn faulty(alloc: Global, ids: &[u8]) -> Result<Items<MemberId>, Broken> {
     let mut members = Items::new(alloc);
     for id in ids {
         members.push(MemberId(*id))?;
@@ -92,12 +91,12 @@ fn faulty(alloc: Global, ids: &[u8]) -> Result<Items<MemberId>, Fail> {
 }
 
 // A ring of one client, whose objects have leaves of 64 bytes.
-fn setup(alloc: Global, f: u8, ids: &[u8]) -> Result<Setup, Fail>
+fn setup(alloc: Global, f: u8, ids: &[u8]) -> Result<Setup, Broken>
     ensures { IfOk result IsSetup }
 {
     let faulty = faulty(alloc, ids)?;
     if f > 3 || faulty.len() > f as usize {
-        return Err(Fail::new("a setup past the limits"));
+        return Err(Broken::Unfit);
     }
     Ok(Setup {
         f,
@@ -110,17 +109,13 @@ fn setup(alloc: Global, f: u8, ids: &[u8]) -> Result<Setup, Fail>
     })
 }
 
-fn site(alloc: Global, f: u8, ids: &[u8]) -> Result<Site<Sha1Hash>, Fail> {
+fn site(alloc: Global, f: u8, ids: &[u8]) -> Result<Site<Sha1Hash>, Broken> {
     let setup = setup(alloc, f, ids)?;
     Ok(Site::open(alloc, Sha1Hash, &setup)?)
 }
 
-fn bytes_of(alloc: Global, digits: &str) -> Result<Bytes, Fail> {
-    Ok(Bytes::from_vec(hex::decode(alloc, digits)?)?)
-}
-
 // A submit of client 0 with the label and the update of a request.
-fn submit(alloc: Global, string: &[u8]) -> Result<Event, Fail> {
+fn submit(alloc: Global, string: &[u8]) -> Result<Event, Broken> {
     let request = guarded_update::read(alloc, string)?;
     Ok(Event::Submit {
         client: ClientId(0),
@@ -130,16 +125,16 @@ fn submit(alloc: Global, string: &[u8]) -> Result<Event, Fail> {
 }
 
 // An append to the object `a` of so many bytes, no two of whose whole leaves are alike.
-fn append_many(alloc: Global, count: u32) -> Result<Event, Fail> {
+fn append_many(alloc: Global, count: u32) -> Result<Event, Broken> {
     let head = format!(in alloc; "060000000001016101000102{count:08x}")?;
-    let mut string = hex::decode(alloc, head.as_str())?;
+    let mut string = decoded(alloc, head.as_str())?;
     for at in 0..count {
         string.push((at / 64 % 251) as u8 ^ (at % 64) as u8)?;
     }
     submit(alloc, string.as_slice())
 }
 
-fn forge(alloc: Global, member: u8, to: Party, digits: &str) -> Result<Event, Fail> {
+fn forge(alloc: Global, member: u8, to: Party, digits: &str) -> Result<Event, Broken> {
     Ok(Event::Forge {
         member: MemberId(member),
         to,
@@ -147,38 +142,27 @@ fn forge(alloc: Global, member: u8, to: Party, digits: &str) -> Result<Event, Fa
     })
 }
 
-fn line(alloc: Global, text: &str) -> Result<String, Fail> {
-    Ok(format!(in alloc; "{text}\n")?)
+fn numbered(alloc: Global, word: &str, value: u64) -> Result<String, Broken> {
+    let mut text = String::new(alloc);
+    add_number(alloc, &mut text, word, value)?;
+    text.push_str("\n")?;
+    Ok(text)
 }
 
-fn numbered(alloc: Global, word: &str, number: u64) -> Result<String, Fail> {
-    Ok(format!(in alloc; "{word} {number}\n")?)
-}
-
-fn said_line(alloc: Global, said: Said) -> Result<String, Fail> {
+fn said_line(alloc: Global, said: Said) -> Result<String, Broken> {
     match said {
-        Said::Nothing => line(alloc, "nothing"),
-        Said::Sent(count) => numbered(alloc, "sent", u64::from(count)),
+        Said::Nothing => line(alloc, "nothing\n"),
+        Said::Sent(count) => numbered(alloc, "sent ", u64::from(count)),
     }
 }
 
-// A site after an event, and what it answered.
-fn happens(site: Site<Sha1Hash>, event: Event) -> Result<(Site<Sha1Hash>, Said), Fail> {
+// Does an event, and tells what it answered.
+fn happens(alloc: Global, site: &mut Site<Sha1Hash>, event: Event) -> Result<String, Broken> {
     if !site.world().may(&event) {
-        return Err(Fail::new("no such event"));
+        return Err(Broken::Unfit);
     }
-    Ok(site.step(event)?)
-}
-
-fn after(
-    alloc: Global,
-    site: Site<Sha1Hash>,
-    event: Event,
-    text: &mut String,
-) -> Result<Site<Sha1Hash>, Fail> {
-    let (site, said) = happens(site, event)?;
-    text.push_str(said_line(alloc, said)?.as_str())?;
-    Ok(site)
+    let said = site.step(event)?;
+    said_line(alloc, said)
 }
 
 fn amount(namings: u64) -> &'static str {
@@ -191,50 +175,38 @@ fn amount(namings: u64) -> &'static str {
     }
 }
 
-fn settle(alloc: Global, site: Site<Sha1Hash>, text: &mut String) -> Result<Site<Sha1Hash>, Fail> {
-    let skips = Skips {
-        muted: Vec::new(alloc),
-        lost: Vec::new(alloc),
-    };
+fn settle(alloc: Global, site: &mut Site<Sha1Hash>) -> Result<String, Broken> {
     let before = site.book().namings();
-    let (site, _count) = site.settle(&skips)?;
-    text.push_str(amount(site.book().namings().saturating_sub(before)))?;
-    Ok(site)
+    site.settle()?;
+    line(alloc, amount(site.book().namings().saturating_sub(before)))
 }
 
-fn name(alloc: Global, site: Site<Sha1Hash>, digits: &str) -> Result<Site<Sha1Hash>, Fail> {
+fn name(alloc: Global, site: &mut Site<Sha1Hash>, digits: &str) -> Result<String, Broken> {
     let bytes = bytes_of(alloc, digits)?;
-    let (site, _name) = site.name(bytes.as_slice())?;
-    Ok(site)
+    site.name(bytes.as_slice())?;
+    line(alloc, "named\n")
 }
 
-// A site after a string was named in its book.
-fn named(site: Site<Sha1Hash>, bytes: &[u8]) -> Result<Site<Sha1Hash>, Fail> {
-    worlds_stay_known();
-    let (mut book, world) = site.into_parts();
-    book.name(bytes)?;
-    Ok(Site::of(book, world))
-}
-
-fn name_apart(alloc: Global, site: Site<Sha1Hash>, digits: &str) -> Result<Site<Sha1Hash>, Fail> {
-    let bytes = bytes_of(alloc, digits)?;
-    named(site, bytes.as_slice())
+// A site that was taken apart and put together.
+fn parted(site: Site<Sha1Hash>) -> Site<Sha1Hash> {
+    let (book, world) = site.into_parts();
+    Site::of(book, world)
 }
 
 // How many requests client 0 has submitted.
-fn submitted(alloc: Global, site: &Site<Sha1Hash>) -> Result<String, Fail> {
+fn submitted(alloc: Global, site: &Site<Sha1Hash>) -> Result<String, Broken> {
     let client = ClientId(0);
     if !site.world().may(&Event::Resubmit { client, number: 1 }) {
-        return Err(Fail::new("no request"));
+        return Err(Broken::Unfit);
     }
     numbered(
         alloc,
-        "submitted",
+        "submitted ",
         u64::from(site.world().submitted(client)),
     )
 }
 
-fn event(alloc: Global, step: &Step) -> Result<Event, Fail> {
+fn event(alloc: Global, step: &Step) -> Result<Event, Broken> {
     match step {
         Step::Submit(digits) => submit(alloc, bytes_of(alloc, digits)?.as_slice()),
         Step::AppendMany(count) => append_many(alloc, *count),
@@ -248,52 +220,45 @@ fn event(alloc: Global, step: &Step) -> Result<Event, Fail> {
             place: *place,
         }),
         Step::Forge(member, to, digits) => forge(alloc, *member, *to, digits),
-        _ => Err(Fail::new("no event")),
+        _ => Err(Broken::Unfit),
     }
 }
 
-// What is told of a site that stays as it is.
-fn look(alloc: Global, site: &Site<Sha1Hash>, step: &Step) -> Result<String, Fail> {
+// What a step tells.
+fn run_step(alloc: Global, site: &mut Site<Sha1Hash>, step: &Step) -> Result<String, Broken> {
     match step {
-        Step::Namings => numbered(alloc, "namings", site.book().namings()),
+        Step::Settle => settle(alloc, site),
+        Step::Name(digits) | Step::NameApart(digits) => name(alloc, site, digits),
+        Step::Namings => numbered(alloc, "namings ", site.book().namings()),
         Step::Submitted => submitted(alloc, site),
-        _ => line(alloc, "named"),
+        _ => happens(alloc, site, event(alloc, step)?),
     }
 }
 
-fn run_step(
-    alloc: Global,
-    site: Site<Sha1Hash>,
-    step: &Step,
-    text: &mut String,
-) -> Result<Site<Sha1Hash>, Fail> {
+// A site before a step: where a string is to be named apart, it is taken apart before.
+fn set_up(site: Site<Sha1Hash>, step: &Step) -> Site<Sha1Hash> {
     match step {
-        Step::Settle => settle(alloc, site, text),
-        Step::Name(digits) => name(alloc, site, digits),
-        Step::NameApart(digits) => name_apart(alloc, site, digits),
-        Step::Namings | Step::Submitted => Ok(site),
-        _ => after(alloc, site, event(alloc, step)?, text),
+        Step::NameApart(_) => parted(site),
+        _ => site,
     }
 }
 
-fn told(alloc: Global, f: u8, ids: &[u8], steps: &[Step]) -> Result<String, Fail> {
+fn told(alloc: Global, f: u8, ids: &[u8], steps: &[Step]) -> Result<String, Broken> {
     let mut text = String::new(alloc);
     let mut site = site(alloc, f, ids)?;
     for step in steps {
-        site = run_step(alloc, site, step, &mut text)?;
-        if let Step::Name(_) | Step::NameApart(_) | Step::Namings | Step::Submitted = step {
-            text.push_str(look(alloc, &site, step)?.as_str())?;
-        }
+        site = set_up(site, step);
+        add(&mut text, run_step(alloc, &mut site, step))?;
     }
     Ok(text)
 }
 
 #[test]
-fn cases(rt: HostRuntime) -> Result<(), Fail> {
-    for (f, ids, steps, wanted) in CASES {
-        assert_eq!(rt; told(rt.alloc(), *f, ids, steps)?.as_str(), *wanted);
+fn cases(rt: HostRuntime) {
+    for (f, ids, steps, text) in CASES {
+        same(&rt, told(rt.alloc(), *f, ids, steps), text);
     }
     events_may_come();
     ring_is_sound();
-    Ok(())
+    worlds_stay_known();
 }

@@ -13,4 +13,6 @@ mod outside;
 #[cfg(test)]
 mod strings;
 #[cfg(test)]
+mod telling;
+#[cfg(test)]
 mod updates;

@@ -1,9 +1,11 @@
 // Messages of each kind as bytes that were written by hand, and bytes that are no message.
+ghost use Rattle.ring_message.specs.Grammar.{MessageFits};
+
+use crate::telling::{Broken, add, decoded, digits_of, digits_of_name, line, number, same};
 use bytes::Bytes;
 use pond_base::{MemberId, Name, Party, Seq, Version};
 use ring_message::{Message, Out, Outcome, read, write};
 use std::alloc::Global;
-use std::test::Fail;
 
 // Bytes, and the message that they are. The request is client 0's request 1, an append of 6869 to the
 // object 'a'.
@@ -86,20 +88,12 @@ const NO_MESSAGES: &[&str] = &[
     "1709090909090909090909090909090909090909090000000507070707070707070707070707070707070707",
 ];
 
-fn decoded(alloc: Global, digits: &str) -> Result<Bytes, Fail> {
-    Ok(Bytes::from_vec(hex::decode(alloc, digits)?)?)
-}
-
-fn digits_of(alloc: Global, bytes: &[u8]) -> Result<String, Fail> {
-    Ok(hex::encode(alloc, bytes)?)
-}
-
-fn digits_of_name(alloc: Global, name: Name) -> Result<String, Fail> {
-    Ok(hex::encode(alloc, name.bytes().as_slice())?)
+fn bytes_of(alloc: Global, digits: &str) -> Result<Bytes, Broken> {
+    Ok(Bytes::from_vec(decoded(alloc, digits)?)?)
 }
 
 // A message as text.
-fn told(alloc: Global, message: &Message) -> Result<String, Fail> {
+fn told(alloc: Global, message: &Message) -> Result<String, Broken> {
     match message {
         Message::Request(request) => request_line(alloc, request.as_slice()),
         Message::PrePrepare { seq, request } => order_line(alloc, seq.0, request.as_slice()),
@@ -119,35 +113,40 @@ fn told(alloc: Global, message: &Message) -> Result<String, Fail> {
     }
 }
 
-fn request_line(alloc: Global, request: &[u8]) -> Result<String, Fail> {
-    let mut text = String::from_str(alloc, "request ")?;
-    let digits = digits_of(alloc, request)?;
-    text.push_str(digits.as_str())?;
+fn request_line(alloc: Global, request: &[u8]) -> Result<String, Broken> {
+    let mut text = line(alloc, "request ")?;
+    add(&mut text, digits_of(alloc, request))?;
     Ok(text)
 }
 
-fn order_line(alloc: Global, slot: u32, request: &[u8]) -> Result<String, Fail> {
-    let mut text = format!(in alloc; "order {slot} ")?;
-    let digits = digits_of(alloc, request)?;
-    text.push_str(digits.as_str())?;
+// A word, and a number behind it.
+fn numbered(alloc: Global, kind: &str, value: u32) -> Result<String, Broken> {
+    let mut text = line(alloc, kind)?;
+    text.push_str(" ")?;
+    add(&mut text, number(alloc, value as u64))?;
+    text.push_str(" ")?;
     Ok(text)
 }
 
-fn vote_line(alloc: Global, kind: &str, slot: u32, name: Name) -> Result<String, Fail> {
-    let mut text = format!(in alloc; "{kind} {slot} ")?;
-    let digits = digits_of_name(alloc, name)?;
-    text.push_str(digits.as_str())?;
+fn order_line(alloc: Global, slot: u32, request: &[u8]) -> Result<String, Broken> {
+    let mut text = numbered(alloc, "order", slot)?;
+    add(&mut text, digits_of(alloc, request))?;
     Ok(text)
 }
 
-fn reply_line(alloc: Global, number: u32, outcome: Outcome) -> Result<String, Fail> {
-    let mut text = format!(in alloc; "reply {number} ")?;
-    let outcome = outcome_text(alloc, outcome)?;
-    text.push_str(outcome.as_str())?;
+fn vote_line(alloc: Global, kind: &str, slot: u32, name: Name) -> Result<String, Broken> {
+    let mut text = numbered(alloc, kind, slot)?;
+    add(&mut text, digits_of_name(alloc, name))?;
     Ok(text)
 }
 
-fn outcome_text(alloc: Global, outcome: Outcome) -> Result<String, Fail> {
+fn reply_line(alloc: Global, value: u32, outcome: Outcome) -> Result<String, Broken> {
+    let mut text = numbered(alloc, "reply", value)?;
+    add(&mut text, outcome_text(alloc, outcome))?;
+    Ok(text)
+}
+
+fn outcome_text(alloc: Global, outcome: Outcome) -> Result<String, Broken> {
     match outcome {
         Outcome::Made { version, name } => vote_line(alloc, "made", version.0, name),
         Outcome::NoClause => line(alloc, "no clause"),
@@ -157,108 +156,117 @@ fn outcome_text(alloc: Global, outcome: Outcome) -> Result<String, Fail> {
     }
 }
 
-fn line(alloc: Global, text: &str) -> Result<String, Fail> {
-    Ok(String::from_str(alloc, text)?)
-}
-
 fn mark_line(
     alloc: Global,
     kind: &str,
     object: Name,
     version: u32,
     name: Name,
-) -> Result<String, Fail> {
+) -> Result<String, Broken> {
     let mut text = line(alloc, kind)?;
     text.push_str(" ")?;
-    let object = digits_of_name(alloc, object)?;
-    text.push_str(object.as_str())?;
-    let rest = vote_line(alloc, "", version, name)?;
-    text.push_str(rest.as_str())?;
+    add(&mut text, digits_of_name(alloc, object))?;
+    add(&mut text, vote_line(alloc, "", version, name))?;
     Ok(text)
 }
 
-// What bytes are told as, and the bytes of the message again.
-fn told_and_written(alloc: Global, bytes: &Bytes) -> Result<(String, String), Fail> {
-    let Some(message) = read(alloc, bytes)? else {
-        return Err(Fail::new("no message"));
-    };
-    let again = write(alloc, &message)?;
-    Ok((told(alloc, &message)?, digits_of(alloc, again.as_slice())?))
+fn written(alloc: Global, message: &Message) -> Result<String, Broken>
+    requires { MessageFits message.now }
+{
+    let bytes = write(alloc, message)?;
+    digits_of(alloc, bytes.as_slice())
+}
+
+fn told_digits(alloc: Global, digits: &str) -> Result<String, Broken> {
+    let bytes = bytes_of(alloc, digits)?;
+    match read(alloc, &bytes)? {
+        Some(message) => told(alloc, &message),
+        None => line(alloc, "no message"),
+    }
+}
+
+fn written_again(alloc: Global, digits: &str) -> Result<String, Broken> {
+    let bytes = bytes_of(alloc, digits)?;
+    match read(alloc, &bytes)? {
+        Some(message) => written(alloc, &message),
+        None => line(alloc, "no message"),
+    }
 }
 
 #[test]
-fn messages_are_read_and_written(rt: HostRuntime) -> Result<(), Fail> {
+fn messages_are_read_and_written(rt: HostRuntime) {
     for (digits, text) in MESSAGES {
-        let bytes = decoded(rt.alloc(), digits)?;
-        let (told, again) = told_and_written(rt.alloc(), &bytes)?;
-        assert_eq!(rt; told.as_str(), *text);
-        assert_eq!(rt; again.as_str(), *digits);
+        same(&rt, told_digits(rt.alloc(), digits), text);
+        same(&rt, written_again(rt.alloc(), digits), digits);
     }
-    Ok(())
 }
 
 #[test]
-fn other_bytes_are_no_message(rt: HostRuntime) -> Result<(), Fail> {
+fn other_bytes_are_no_message(rt: HostRuntime) {
     for digits in NO_MESSAGES {
-        let bytes = decoded(rt.alloc(), digits)?;
-        assert!(rt; read(rt.alloc(), &bytes)?.is_none(), "at {digits}");
+        same(&rt, told_digits(rt.alloc(), digits), "no message");
     }
-    Ok(())
 }
 
 fn nines() -> Name {
     Name::from_bytes([9; 20])
 }
 
-fn prepare_digits(alloc: Global) -> Result<String, Fail> {
+fn prepare_digits(alloc: Global) -> Result<String, Broken> {
     let vote = Message::Prepare {
         seq: Seq(258),
         name: nines(),
     };
-    let bytes = write(alloc, &vote)?;
-    digits_of(alloc, bytes.as_slice())
+    written(alloc, &vote)
 }
 
-fn commit_digits(alloc: Global) -> Result<String, Fail> {
+fn commit_digits(alloc: Global) -> Result<String, Broken> {
     let vote = Message::Commit {
         seq: Seq(258),
         name: nines(),
     };
-    let bytes = write(alloc, &vote)?;
-    digits_of(alloc, bytes.as_slice())
+    written(alloc, &vote)
 }
 
-fn heart_digits(alloc: Global) -> Result<String, Fail> {
+fn heart_digits(alloc: Global) -> Result<String, Broken> {
     let heart = Message::Heart {
         object: nines(),
         version: Version(5),
         name: Name::from_bytes([7; 20]),
     };
-    let bytes = write(alloc, &heart)?;
-    digits_of(alloc, bytes.as_slice())
+    written(alloc, &heart)
 }
 
 #[test]
-fn messages_that_were_made_here(rt: HostRuntime) -> Result<(), Fail> {
+fn messages_that_were_made_here(rt: HostRuntime) {
     let prepare = "13000001020909090909090909090909090909090909090909";
-    assert_eq!(rt; prepare_digits(rt.alloc())?.as_str(), prepare);
+    same(&rt, prepare_digits(rt.alloc()), prepare);
     let commit = "14000001020909090909090909090909090909090909090909";
-    assert_eq!(rt; commit_digits(rt.alloc())?.as_str(), commit);
+    same(&rt, commit_digits(rt.alloc()), commit);
     let heart = "16\
                  0909090909090909090909090909090909090909\
                  00000005\
                  0707070707070707070707070707070707070707";
-    assert_eq!(rt; heart_digits(rt.alloc())?.as_str(), heart);
-    Ok(())
+    same(&rt, heart_digits(rt.alloc()), heart);
+}
+
+fn told_out(alloc: Global) -> Result<String, Broken> {
+    let out = Out {
+        to: Party::Member(MemberId(2)),
+        bytes: bytes_of(alloc, "150000000305")?,
+    };
+    line(alloc, about(&out))
+}
+
+fn about(out: &Out) -> &'static str {
+    if out.to == Party::Member(MemberId(2)) && out.bytes.len() == 6 {
+        "6 bytes for member 2"
+    } else {
+        "other bytes"
+    }
 }
 
 #[test]
-fn bytes_for_a_party(rt: HostRuntime) -> Result<(), Fail> {
-    let out = Out {
-        to: Party::Member(MemberId(2)),
-        bytes: decoded(rt.alloc(), "150000000305")?,
-    };
-    assert_eq!(rt; out.to, Party::Member(MemberId(2)));
-    assert_eq!(rt; out.bytes.len(), 6);
-    Ok(())
+fn bytes_for_a_party(rt: HostRuntime) {
+    same(&rt, told_out(rt.alloc()), "6 bytes for member 2");
 }

@@ -1,9 +1,9 @@
 // Known digests, what a book holds and counts, clashes, and pools.
+use crate::telling::{Broken, add, decoded, digits_of, digits_of_name, holds, line, number, same};
 use block_names::{Book, FoldHash, Hash160, NameFault, Pool, Sha1Hash, StepFault};
 use bytes::Bytes;
 use pond_base::{Name, OutOfMemory};
 use std::alloc::Global;
-use std::test::Fail;
 
 // Strings, and their names under SHA-1.
 const DIGESTS: &[(&str, &str)] = &[
@@ -16,21 +16,19 @@ const FOLDED: &[&str] = &["0161ee", "01ee61", "ee0161"];
 
 const OF_01_61: &str = "d7df14c970b8fe33527b5f9c9243f8017d85dc8c";
 
-fn digest<H: Hash160>(alloc: Global, hash: &H, digits: &str) -> Result<String, Fail> {
-    let bytes = hex::decode(alloc, digits)?;
-    let name = hash.hash(bytes.as_slice());
-    Ok(hex::encode(alloc, name.bytes().as_slice())?)
+fn digest<H: Hash160>(alloc: Global, hash: &H, digits: &str) -> Result<String, Broken> {
+    let bytes = decoded(alloc, digits)?;
+    digits_of_name(alloc, hash.hash(bytes.as_slice()))
 }
 
 #[test]
-fn known_digests(rt: HostRuntime) -> Result<(), Fail> {
+fn known_digests(rt: HostRuntime) {
     for (digits, name) in DIGESTS {
-        assert_eq!(rt; digest(rt.alloc(), &Sha1Hash, digits)?.as_str(), *name);
+        same(&rt, digest(rt.alloc(), &Sha1Hash, digits), name);
     }
     for digits in FOLDED {
-        assert_eq!(rt; digest(rt.alloc(), &FoldHash, digits)?.as_str(), OF_01_61);
+        same(&rt, digest(rt.alloc(), &FoldHash, digits), OF_01_61);
     }
-    Ok(())
 }
 
 // Strings that are named one after the other, and for each its name or the two strings of the clash, and
@@ -51,113 +49,126 @@ fn named<H: Hash160 + Drop>(
     alloc: Global,
     book: &mut Book<H>,
     digits: &str,
-) -> Result<String, Fail> {
-    let bytes = hex::decode(alloc, digits)?;
+) -> Result<String, Broken> {
+    let bytes = decoded(alloc, digits)?;
     match book.name(bytes.as_slice()) {
-        Ok(name) => Ok(hex::encode(alloc, name.bytes().as_slice())?),
+        Ok(name) => digits_of_name(alloc, name),
         Err(NameFault::Clash { old, new }) => clash(alloc, &old, &new),
-        Err(NameFault::Memory) => Err(Fail::new("no memory")),
+        Err(NameFault::Memory) => Err(Broken::Memory),
     }
 }
 
-fn clash(alloc: Global, old: &Bytes, new: &Bytes) -> Result<String, Fail> {
-    let mut text = String::from_str(alloc, "clash ")?;
-    add_digits(alloc, old, &mut text)?;
-    text.push_str(" ")?;
-    add_digits(alloc, new, &mut text)?;
+fn clash(alloc: Global, old: &Bytes, new: &Bytes) -> Result<String, Broken> {
+    let mut text = line(alloc, "clash ")?;
+    add(&mut text, digits_of(alloc, old.as_slice()))?;
+    add(&mut text, line(alloc, " "))?;
+    add(&mut text, digits_of(alloc, new.as_slice()))?;
     Ok(text)
-}
-
-fn add_digits(alloc: Global, bytes: &Bytes, text: &mut String) -> Result<(), Fail> {
-    let digits = hex::encode(alloc, bytes.as_slice())?;
-    text.push_str(digits.as_str())?;
-    Ok(())
 }
 
 fn named_and_counted<H: Hash160 + Drop>(
     alloc: Global,
     book: &mut Book<H>,
     digits: &str,
-) -> Result<String, Fail> {
+) -> Result<String, Broken> {
     let mut text = named(alloc, book, digits)?;
-    let count = format!(in alloc; " {}", book.namings())?;
-    text.push_str(count.as_str())?;
+    add(&mut text, line(alloc, " "))?;
+    add(&mut text, number(alloc, book.namings()))?;
     Ok(text)
 }
 
 #[test]
-fn names_are_counted(rt: HostRuntime) -> Result<(), Fail> {
+fn names_are_counted(rt: HostRuntime) {
     let mut book = Book::new(rt.alloc(), Sha1Hash);
     for (digits, text) in NAMED {
-        assert_eq!(rt;
-            named_and_counted(rt.alloc(), &mut book, digits)?.as_str(),
-            *text
-        );
+        same(&rt, named_and_counted(rt.alloc(), &mut book, digits), text);
     }
-    Ok(())
 }
 
 #[test]
-fn two_strings_of_one_name_clash(rt: HostRuntime) -> Result<(), Fail> {
+fn two_strings_of_one_name_clash(rt: HostRuntime) {
     let mut book = Book::new(rt.alloc(), FoldHash);
     for (digits, text) in CLASHING {
-        assert_eq!(rt;
-            named_and_counted(rt.alloc(), &mut book, digits)?.as_str(),
-            *text
-        );
+        same(&rt, named_and_counted(rt.alloc(), &mut book, digits), text);
     }
-    Ok(())
+}
+
+// Whether a name is held just from when its string is named.
+fn is_held_once_named(book: &mut Book<Sha1Hash>) -> bool {
+    let name = Sha1Hash.hash(b"abc");
+    let before = book.holds(name);
+    match book.name(b"abc") {
+        Ok(named) => !before && named == name && book.holds(name),
+        Err(_) => false,
+    }
 }
 
 #[test]
-fn names_are_held(rt: HostRuntime) -> Result<(), Fail> {
+fn names_are_held(rt: HostRuntime) {
     let mut book = Book::new(rt.alloc(), Sha1Hash);
-    let name = Sha1Hash.hash(b"abc");
-    assert!(rt; !book.holds(name));
-    assert_eq!(rt; book.name(b"abc")?, name);
-    assert!(rt; book.holds(name));
-    Ok(())
+    holds(&rt, is_held_once_named(&mut book), "abc");
 }
 
-fn clash_of(alloc: Global) -> Result<NameFault, Fail> {
+fn clash_of(alloc: Global) -> Result<NameFault, Broken> {
     let old = Bytes::copy_from_slice(alloc, b"old")?;
     let new = Bytes::copy_from_slice(alloc, b"new")?;
     Ok(NameFault::Clash { old, new })
 }
 
-fn is_clash(fault: &StepFault) -> bool {
+fn step_fault(alloc: Global, fault: &StepFault) -> Result<String, Broken> {
     match fault {
-        StepFault::Clash { old, new } => {
-            old.as_slice() == b"old".as_slice() && new.as_slice() == b"new".as_slice()
-        }
-        StepFault::Ended | StepFault::Memory => false,
+        StepFault::Clash { old, new } => clash(alloc, old, new),
+        StepFault::Ended => line(alloc, "ended"),
+        StepFault::Memory => line(alloc, "memory"),
     }
 }
 
-#[test]
-fn faults_of_steps(rt: HostRuntime) -> Result<(), Fail> {
-    assert!(rt; is_clash(&StepFault::from(clash_of(rt.alloc())?)));
-    assert!(rt; matches!(StepFault::from(NameFault::Memory), StepFault::Memory));
-    assert!(rt; matches!(StepFault::from(OutOfMemory), StepFault::Memory));
-    assert!(rt; matches!(NameFault::from(OutOfMemory), NameFault::Memory));
-    Ok(())
+fn step_clash(alloc: Global) -> Result<String, Broken> {
+    let fault = StepFault::from(clash_of(alloc)?);
+    step_fault(alloc, &fault)
 }
 
-fn put(alloc: Global, pool: &mut Pool, name: Name, bytes: &[u8]) -> Result<(), Fail> {
+#[test]
+fn faults_of_steps(rt: HostRuntime) {
+    same(&rt, step_clash(rt.alloc()), "clash 6f6c64 6e6577");
+    let named = StepFault::from(NameFault::Memory);
+    same(&rt, step_fault(rt.alloc(), &named), "memory");
+    let memory = StepFault::from(OutOfMemory);
+    same(&rt, step_fault(rt.alloc(), &memory), "memory");
+}
+
+#[test]
+fn faults_of_names(rt: HostRuntime) {
+    let memory = matches!(NameFault::from(OutOfMemory), NameFault::Memory);
+    holds(&rt, memory, "out of memory");
+}
+
+fn held(alloc: Global, pool: &Pool, name: Name) -> Result<String, Broken> {
+    match pool.get(name) {
+        Some(bytes) => digits_of(alloc, bytes.as_slice()),
+        None => line(alloc, "none"),
+    }
+}
+
+// What a pool holds under a name once a string was put there.
+fn put(alloc: Global, pool: &mut Pool, name: Name, bytes: &[u8]) -> Result<String, Broken> {
     pool.put(name, Bytes::copy_from_slice(alloc, bytes)?)?;
-    Ok(())
+    held(alloc, pool, name)
 }
 
 #[test]
-fn the_first_string_stays(rt: HostRuntime) -> Result<(), Fail> {
+fn the_first_string_stays(rt: HostRuntime) {
     let mut pool = Pool::new(rt.alloc());
     let name = Name::from_bytes([7; 20]);
-    assert_eq!(rt; pool.get(name), None);
-    put(rt.alloc(), &mut pool, name, b"first")?;
-    put(rt.alloc(), &mut pool, name, b"second")?;
-    let Some(bytes) = pool.get(name) else {
-        return Err(Fail::new("nothing is there"));
-    };
-    assert_eq!(rt; bytes.as_slice(), b"first".as_slice());
-    Ok(())
+    same(&rt, held(rt.alloc(), &pool, name), "none");
+    same(
+        &rt,
+        put(rt.alloc(), &mut pool, name, b"first"),
+        "6669727374",
+    );
+    same(
+        &rt,
+        put(rt.alloc(), &mut pool, name, b"second"),
+        "6669727374",
+    );
 }

@@ -1,10 +1,10 @@
 // Sources and sinks: what each take gives, which takes fail, and what is read and written as a whole.
+use crate::telling::{Broken, add, digits_of, line, number, same};
 use pond_base::{
     CleanSink, CleanSource, Failed, MemorySink, MemorySource, Sink, Source, Unread, read_whole,
     write_whole,
 };
 use std::alloc::Global;
-use std::test::Fail;
 
 // The bytes `pond` in a source: the most bytes of a take, the room of each take, the numbers of the
 // takes that fail, and what each of five takes gives.
@@ -27,77 +27,73 @@ const SOURCES: &[(usize, usize, &[u64], &str)] = &[
     (9, 4, &[2], "706f6e64;failed;;;;"),
 ];
 
-fn failed(alloc: Global) -> Result<String, Fail> {
-    Ok(String::from_str(alloc, "failed;")?)
+fn failed(alloc: Global) -> Result<String, Broken> {
+    line(alloc, "failed;")
 }
 
-fn given(alloc: Global, bytes: &[u8]) -> Result<String, Fail> {
-    let mut text = hex::encode(alloc, bytes)?;
+fn given(alloc: Global, bytes: &[u8]) -> Result<String, Broken> {
+    let mut text = digits_of(alloc, bytes)?;
     text.push_str(";")?;
     Ok(text)
 }
 
 // A take of a source, into a room of so many bytes.
-fn take_of<S: Source>(alloc: Global, source: &mut S, room: usize) -> Result<String, Fail> {
+fn take_of<S: Source>(alloc: Global, source: &mut S, room: usize) -> Result<String, Broken> {
     if room == 0 {
-        return Err(Fail::new("no room"));
+        return Err(Broken::Unfit);
     }
     let mut bytes = vec![in alloc; 0; room]?;
     match source.take(bytes.as_mut_slice()) {
-        Ok(count) => given_of(alloc, bytes.as_slice(), count),
+        Ok(count) => given(alloc, &bytes[..count]),
         Err(Failed) => failed(alloc),
     }
 }
 
-fn given_of(alloc: Global, bytes: &[u8], count: usize) -> Result<String, Fail> {
-    match bytes.get(..count) {
-        Some(bytes) => given(alloc, bytes),
-        None => Err(Fail::new("more than the room")),
-    }
-}
-
-fn takes_of<S: Source>(alloc: Global, source: &mut S, room: usize) -> Result<String, Fail> {
+fn takes_of<S: Source>(alloc: Global, source: &mut S, room: usize) -> Result<String, Broken> {
     let mut text = String::new(alloc);
     for _take in 0..5 {
-        let take = take_of(alloc, source, room)?;
-        text.push_str(take.as_str())?;
+        add(&mut text, take_of(alloc, source, room))?;
     }
     Ok(text)
 }
 
-fn source_of(alloc: Global, most: usize, fails: &[u64]) -> Result<MemorySource, Fail> {
+fn source_of(alloc: Global, most: usize, fails: &[u64]) -> Result<MemorySource, Broken> {
     if most == 0 {
-        return Err(Fail::new("no bytes a take"));
+        return Err(Broken::Unfit);
     }
     let fails = fails.to_vec(alloc)?;
     Ok(MemorySource::new(b"pond".to_vec(alloc)?, most, fails))
 }
 
-fn told_source(alloc: Global, most: usize, room: usize, fails: &[u64]) -> Result<String, Fail> {
+fn told_source(alloc: Global, most: usize, room: usize, fails: &[u64]) -> Result<String, Broken> {
     let mut source = source_of(alloc, most, fails)?;
     takes_of(alloc, &mut source, room)
 }
 
 #[test]
-fn the_listed_takes_of_sources_fail(rt: HostRuntime) -> Result<(), Fail> {
+fn the_listed_takes_of_sources_fail(rt: HostRuntime) {
     for (most, room, fails, text) in SOURCES {
-        let told = told_source(rt.alloc(), *most, *room, fails)?;
-        assert_eq!(rt; told.as_str(), *text, "at {most} {room} {fails:?}");
+        same(&rt, told_source(rt.alloc(), *most, *room, fails), text);
     }
-    Ok(())
+}
+
+// The room of each take of a source that is clean, and what each of five takes gives.
+const CLEAN: &[(usize, &str)] = &[
+    (1, "70;6f;6e;64;;"),
+    (3, "706f6e;64;;;;"),
+    (9, "706f6e64;;;;;"),
+];
+
+fn told_clean(alloc: Global, room: usize) -> Result<String, Broken> {
+    let mut source = CleanSource::new(b"pond".to_vec(alloc)?);
+    takes_of(alloc, &mut source, room)
 }
 
 #[test]
-fn clean_sources_give_what_the_room_takes(rt: HostRuntime) -> Result<(), Fail> {
-    for (room, text) in [
-        (1, "70;6f;6e;64;;"),
-        (3, "706f6e;64;;;;"),
-        (9, "706f6e64;;;;;"),
-    ] {
-        let mut source = CleanSource::new(b"pond".to_vec(rt.alloc())?);
-        assert_eq!(rt; takes_of(rt.alloc(), &mut source, room)?.as_str(), text);
+fn clean_sources_give_what_the_room_takes(rt: HostRuntime) {
+    for (room, text) in CLEAN {
+        same(&rt, told_clean(rt.alloc(), *room), text);
     }
-    Ok(())
 }
 
 // The bytes `ponds` for a sink: its room, the most bytes of a take, the numbers of the takes that fail,
@@ -122,65 +118,66 @@ const SINKS: &[(usize, usize, &[u64], &str)] = &[
 ];
 
 // A take of a sink, of what is left of a piece after some bytes, and how many bytes are done then.
-fn put_into<K: Sink>(
-    alloc: Global,
-    sink: &mut K,
-    piece: &[u8],
-    done: usize,
-) -> Result<(String, usize), Fail> {
-    if done >= piece.len() {
-        return Ok((String::new(alloc), done));
+fn put_into<K: Sink>(alloc: Global, sink: &mut K, done: &mut usize) -> Result<String, Broken> {
+    let piece = b"ponds".as_slice();
+    if *done >= piece.len() {
+        return Ok(String::new(alloc));
     }
-    match sink.take(&piece[done..]) {
-        Ok(count) => Ok((count_of(alloc, count)?, done.saturating_add(count))),
-        Err(Failed) => Ok((failed(alloc)?, done)),
+    match sink.take(&piece[*done..]) {
+        Ok(count) => {
+            *done = done.saturating_add(count);
+            count_of(alloc, count)
+        }
+        Err(Failed) => failed(alloc),
     }
 }
 
-fn count_of(alloc: Global, count: usize) -> Result<String, Fail> {
-    Ok(format!(in alloc; "{count};")?)
+fn count_of(alloc: Global, count: usize) -> Result<String, Broken> {
+    let mut text = number(alloc, count as u64)?;
+    text.push_str(";")?;
+    Ok(text)
 }
 
-fn puts_into<K: Sink>(alloc: Global, sink: &mut K) -> Result<String, Fail> {
+fn puts_into<K: Sink>(alloc: Global, sink: &mut K) -> Result<String, Broken> {
     let mut text = String::new(alloc);
     let mut done = 0;
     for _take in 0..5 {
-        let (put, now) = put_into(alloc, sink, b"ponds", done)?;
-        text.push_str(put.as_str())?;
-        done = now;
+        add(&mut text, put_into(alloc, sink, &mut done))?;
     }
     Ok(text)
 }
 
-fn sink_of(alloc: Global, room: usize, most: usize, fails: &[u64]) -> Result<MemorySink, Fail> {
+fn sink_of(alloc: Global, room: usize, most: usize, fails: &[u64]) -> Result<MemorySink, Broken> {
     if most == 0 {
-        return Err(Fail::new("no bytes a take"));
+        return Err(Broken::Unfit);
     }
     Ok(MemorySink::new(alloc, room, most, fails.to_vec(alloc)?)?)
 }
 
-fn told_sink(alloc: Global, room: usize, most: usize, fails: &[u64]) -> Result<String, Fail> {
+fn told_sink(alloc: Global, room: usize, most: usize, fails: &[u64]) -> Result<String, Broken> {
     let mut sink = sink_of(alloc, room, most, fails)?;
-    let mut text = puts_into(alloc, &mut sink)?;
-    add_taken(alloc, &sink, &mut text)?;
+    puts_and_taken(alloc, &mut sink)
+}
+
+fn puts_and_taken(alloc: Global, sink: &mut MemorySink) -> Result<String, Broken> {
+    let mut text = puts_into(alloc, sink)?;
+    add(&mut text, given(alloc, sink.taken()))?;
     Ok(text)
 }
 
-fn add_taken(alloc: Global, sink: &MemorySink, text: &mut String) -> Result<(), Fail> {
-    let taken = given(alloc, sink.taken())?;
-    text.push_str(taken.as_str())?;
-    Ok(())
+#[test]
+fn the_listed_takes_of_sinks_fail(rt: HostRuntime) {
+    for (room, most, fails, text) in SINKS {
+        same(&rt, told_sink(rt.alloc(), *room, *most, fails), text);
+    }
 }
 
 #[test]
-fn the_listed_takes_of_sinks_fail(rt: HostRuntime) -> Result<(), Fail> {
-    for (room, most, fails, text) in SINKS {
-        let told = told_sink(rt.alloc(), *room, *most, fails)?;
-        assert_eq!(rt; told.as_str(), *text, "at {room} {most} {fails:?}");
-    }
+fn clean_sinks_take_all(rt: HostRuntime) {
     let mut sink = CleanSink::new();
-    assert_eq!(rt; puts_into(rt.alloc(), &mut sink)?.as_str(), "5;");
-    Ok(())
+    same(&rt, puts_into(rt.alloc(), &mut sink), "5;");
+    let mut other = CleanSink::new();
+    same(&rt, written(rt.alloc(), &mut other, b"pond"), "written;");
 }
 
 // `pond` read whole: the most bytes of a take, the takes that fail, the most bytes that are allowed, what
@@ -202,42 +199,45 @@ const WHOLES: &[(usize, &[u64], usize, &str)] = &[
     (3, &[2], 4, "failed;64;"),
 ];
 
-fn whole<S: Source>(alloc: Global, source: &mut S, most: usize) -> Result<String, Fail> {
+fn whole<S: Source>(alloc: Global, source: &mut S, most: usize) -> Result<String, Broken> {
     if most > 9 {
-        return Err(Fail::new("too many"));
+        return Err(Broken::Unfit);
     }
     match read_whole(alloc, source, most) {
         Ok(bytes) => given(alloc, bytes.as_slice()),
         Err(Unread::Failed) => failed(alloc),
-        Err(Unread::TooLarge) => Ok(String::from_str(alloc, "too large;")?),
-        Err(Unread::Memory) => Err(Fail::new("no memory")),
+        Err(Unread::TooLarge) => line(alloc, "too large;"),
+        Err(Unread::Memory) => Err(Broken::Memory),
     }
 }
 
-fn whole_and_next<S: Source>(alloc: Global, source: &mut S, most: usize) -> Result<String, Fail> {
+fn whole_and_next<S: Source>(alloc: Global, source: &mut S, most: usize) -> Result<String, Broken> {
     let mut text = whole(alloc, source, most)?;
-    let next = take_of(alloc, source, 1)?;
-    text.push_str(next.as_str())?;
+    add(&mut text, take_of(alloc, source, 1))?;
     Ok(text)
 }
 
-#[test]
-fn wholes_are_read_to_the_first_fault(rt: HostRuntime) -> Result<(), Fail> {
-    for (most, fails, allowed, text) in WHOLES {
-        let mut source = source_of(rt.alloc(), *most, fails)?;
-        let told = whole_and_next(rt.alloc(), &mut source, *allowed)?;
-        assert_eq!(rt; told.as_str(), *text, "at {most} {fails:?} {allowed}");
-    }
-    Ok(())
+fn told_whole(alloc: Global, most: usize, fails: &[u64], allowed: usize) -> Result<String, Broken> {
+    let mut source = source_of(alloc, most, fails)?;
+    whole_and_next(alloc, &mut source, allowed)
 }
 
 #[test]
-fn clean_wholes_are_read(rt: HostRuntime) -> Result<(), Fail> {
-    for (allowed, text) in [(4, "706f6e64;"), (3, "too large;")] {
-        let mut source = CleanSource::new(b"pond".to_vec(rt.alloc())?);
-        assert_eq!(rt; whole(rt.alloc(), &mut source, allowed)?.as_str(), text);
+fn wholes_are_read_to_the_first_fault(rt: HostRuntime) {
+    for (most, fails, allowed, text) in WHOLES {
+        same(&rt, told_whole(rt.alloc(), *most, fails, *allowed), text);
     }
-    Ok(())
+}
+
+fn told_clean_whole(alloc: Global, allowed: usize) -> Result<String, Broken> {
+    let mut source = CleanSource::new(b"pond".to_vec(alloc)?);
+    whole(alloc, &mut source, allowed)
+}
+
+#[test]
+fn clean_wholes_are_read(rt: HostRuntime) {
+    same(&rt, told_clean_whole(rt.alloc(), 4), "706f6e64;");
+    same(&rt, told_clean_whole(rt.alloc(), 3), "too large;");
 }
 
 // `pond` and then `s` written whole: the room of the sink, the most bytes of a take, the takes that fail,
@@ -255,9 +255,9 @@ const WRITES: &[(usize, usize, &[u64], &str)] = &[
     (9, 1, &[2, 3], "failed;70;failed;70;"),
 ];
 
-fn written<K: Sink>(alloc: Global, sink: &mut K, piece: &[u8]) -> Result<String, Fail> {
+fn written<K: Sink>(alloc: Global, sink: &mut K, piece: &[u8]) -> Result<String, Broken> {
     match write_whole(sink, piece) {
-        Ok(()) => Ok(String::from_str(alloc, "written;")?),
+        Ok(()) => line(alloc, "written;"),
         Err(Failed) => failed(alloc),
     }
 }
@@ -267,30 +267,26 @@ fn add_written(
     sink: &mut MemorySink,
     piece: &[u8],
     text: &mut String,
-) -> Result<(), Fail> {
-    let what = written(alloc, sink, piece)?;
-    text.push_str(what.as_str())?;
-    add_taken(alloc, sink, text)
+) -> Result<(), Broken> {
+    add(text, written(alloc, sink, piece))?;
+    add(text, given(alloc, sink.taken()))
 }
 
-fn told_writes(alloc: Global, sink: &mut MemorySink) -> Result<String, Fail> {
+fn both_written(alloc: Global, sink: &mut MemorySink) -> Result<String, Broken> {
     let mut text = String::new(alloc);
     add_written(alloc, sink, b"pond", &mut text)?;
     add_written(alloc, sink, b"s", &mut text)?;
     Ok(text)
 }
 
+fn told_writes(alloc: Global, room: usize, most: usize, fails: &[u64]) -> Result<String, Broken> {
+    let mut sink = sink_of(alloc, room, most, fails)?;
+    both_written(alloc, &mut sink)
+}
+
 #[test]
-fn wholes_are_written_to_the_first_fault(rt: HostRuntime) -> Result<(), Fail> {
+fn wholes_are_written_to_the_first_fault(rt: HostRuntime) {
     for (room, most, fails, text) in WRITES {
-        let mut sink = sink_of(rt.alloc(), *room, *most, fails)?;
-        let told = told_writes(rt.alloc(), &mut sink)?;
-        assert_eq!(rt; told.as_str(), *text, "at {room} {most} {fails:?}");
+        same(&rt, told_writes(rt.alloc(), *room, *most, fails), text);
     }
-    let mut sink = CleanSink::new();
-    assert_eq!(rt;
-        written(rt.alloc(), &mut sink, b"pond")?.as_str(),
-        "written;"
-    );
-    Ok(())
 }

@@ -1,7 +1,7 @@
 // The strings of trees, written out by hand, and what each reader refuses.
+use crate::telling::{Broken, decoded, digits_of, holds, line, number, same};
 use pond_base::{Label, Name, Version};
 use std::alloc::Global;
-use std::test::Fail;
 use tree_format::{
     Inner, Malformed, Root, is_root, read_inner, read_leaf, read_root, write_inner, write_label,
     write_leaf, write_root,
@@ -12,64 +12,59 @@ const LEAVES: &[(&str, &str)] = &[("6869", "016869"), ("00", "0100")];
 
 // The first bytes of a string, how long it is with zeros behind them, and how many bytes of content are
 // read of it, where it is a leaf string.
-const LEAF_LENGTHS: &[(&str, usize, Option<usize>)] = &[
-    ("", 0, None),
-    ("01", 1, None),
-    ("026869", 3, None),
-    ("016869", 3, Some(2)),
-    ("01", 8193, Some(8192)),
-    ("01", 8194, None),
+const LEAF_LENGTHS: &[(&str, usize, &str)] = &[
+    ("", 0, "none"),
+    ("01", 1, "none"),
+    ("026869", 3, "none"),
+    ("016869", 3, "2"),
+    ("01", 8193, "8192"),
+    ("01", 8194, "none"),
 ];
 
-fn leaf_string(alloc: Global, content: &[u8]) -> Result<String, Fail> {
+fn leaf_string(alloc: Global, content: &[u8]) -> Result<String, Broken> {
     if content.is_empty() || content.len() > 8192 {
-        return Err(Fail::new("no content"));
+        return Err(Broken::Unfit);
     }
     let string = write_leaf(alloc, content)?;
-    Ok(hex::encode(alloc, string.as_slice())?)
+    digits_of(alloc, string.as_slice())
 }
 
-fn written_leaf(alloc: Global, digits: &str) -> Result<String, Fail> {
-    let content = hex::decode(alloc, digits)?;
+fn written_leaf(alloc: Global, digits: &str) -> Result<String, Broken> {
+    let content = decoded(alloc, digits)?;
     leaf_string(alloc, content.as_slice())
 }
 
-fn content_of(alloc: Global, digits: &str) -> Result<String, Fail> {
-    let string = hex::decode(alloc, digits)?;
-    Ok(hex::encode(alloc, read_leaf(string.as_slice())?)?)
+fn content_of(alloc: Global, digits: &str) -> Result<String, Broken> {
+    let string = decoded(alloc, digits)?;
+    digits_of(alloc, read_leaf(string.as_slice())?)
 }
 
 // Bytes, with zeros behind them up to a length.
-fn padded(alloc: Global, digits: &str, length: usize) -> Result<Vec<u8>, Fail> {
-    let mut bytes = hex::decode(alloc, digits)?;
+fn padded(alloc: Global, digits: &str, length: usize) -> Result<Vec<u8>, Broken> {
+    let mut bytes = decoded(alloc, digits)?;
     for _byte in bytes.len()..length {
         bytes.push(0)?;
     }
     Ok(bytes)
 }
 
-fn leaf_length(alloc: Global, digits: &str, length: usize) -> Result<Option<usize>, Fail> {
+fn leaf_length(alloc: Global, digits: &str, length: usize) -> Result<String, Broken> {
     let string = padded(alloc, digits, length)?;
     match read_leaf(string.as_slice()) {
-        Ok(content) => Ok(Some(content.len())),
-        Err(Malformed) => Ok(None),
+        Ok(content) => number(alloc, content.len() as u64),
+        Err(Malformed) => line(alloc, "none"),
     }
 }
 
 #[test]
-fn leaf_strings(rt: HostRuntime) -> Result<(), Fail> {
+fn leaf_strings(rt: HostRuntime) {
     for (content, string) in LEAVES {
-        assert_eq!(rt; written_leaf(rt.alloc(), content)?.as_str(), *string);
-        assert_eq!(rt; content_of(rt.alloc(), string)?.as_str(), *content);
+        same(&rt, written_leaf(rt.alloc(), content), string);
+        same(&rt, content_of(rt.alloc(), string), content);
     }
     for (digits, length, read) in LEAF_LENGTHS {
-        assert_eq!(rt;
-            leaf_length(rt.alloc(), digits, *length)?,
-            *read,
-            "at {digits} {length}"
-        );
+        same(&rt, leaf_length(rt.alloc(), digits, *length), read);
     }
-    Ok(())
 }
 
 // The inner string of the names of sevens and of nines.
@@ -79,15 +74,15 @@ const INNER: &str = "0202\
 
 // The first bytes of a string, how long it is with zeros behind them, and how many names are read of it,
 // where it is an inner string.
-const INNER_LENGTHS: &[(&str, usize, Option<u8>)] = &[
-    ("0240", 1281, None),
-    ("0240", 1282, Some(64)),
-    ("0240", 1283, None),
-    ("0240", 1302, None),
-    ("0241", 1302, None),
-    ("0200", 2, None),
-    ("0201", 22, Some(1)),
-    ("0101", 22, None),
+const INNER_LENGTHS: &[(&str, usize, &str)] = &[
+    ("0240", 1281, "none"),
+    ("0240", 1282, "64"),
+    ("0240", 1283, "none"),
+    ("0240", 1302, "none"),
+    ("0241", 1302, "none"),
+    ("0200", 2, "none"),
+    ("0201", 22, "1"),
+    ("0101", 22, "none"),
 ];
 
 fn sevens() -> Name {
@@ -98,36 +93,40 @@ fn nines() -> Name {
     Name::from_bytes([9; 20])
 }
 
-fn inner_length(alloc: Global, digits: &str, length: usize) -> Result<Option<u8>, Fail> {
+fn inner_length(alloc: Global, digits: &str, length: usize) -> Result<String, Broken> {
     let string = padded(alloc, digits, length)?;
     match read_inner(string.as_slice()) {
-        Ok(inner) => Ok(Some(inner.count())),
-        Err(Malformed) => Ok(None),
+        Ok(inner) => number(alloc, inner.count() as u64),
+        Err(Malformed) => line(alloc, "none"),
     }
 }
 
-fn written_inner(alloc: Global) -> Result<String, Fail> {
+fn written_inner(alloc: Global) -> Result<String, Broken> {
     let string = write_inner(alloc, &[sevens(), nines()])?;
-    Ok(hex::encode(alloc, string.as_slice())?)
+    digits_of(alloc, string.as_slice())
 }
 
-fn are_sevens_and_nines(inner: &Inner) -> bool {
-    inner.count() == 2 && inner.name(0) == sevens() && inner.name(1) == nines()
+fn sevens_and_nines(inner: &Inner) -> &'static str {
+    if inner.count() == 2 && inner.name(0) == sevens() && inner.name(1) == nines() {
+        "sevens and nines"
+    } else {
+        "other names"
+    }
+}
+
+fn inner_names(alloc: Global, digits: &str) -> Result<String, Broken> {
+    let string = decoded(alloc, digits)?;
+    let inner = read_inner(string.as_slice())?;
+    line(alloc, sevens_and_nines(&inner))
 }
 
 #[test]
-fn inner_strings(rt: HostRuntime) -> Result<(), Fail> {
-    assert_eq!(rt; written_inner(rt.alloc())?.as_str(), INNER);
-    let string = hex::decode(rt.alloc(), INNER)?;
-    assert!(rt; are_sevens_and_nines(&read_inner(string.as_slice())?));
+fn inner_strings(rt: HostRuntime) {
+    same(&rt, written_inner(rt.alloc()), INNER);
+    same(&rt, inner_names(rt.alloc(), INNER), "sevens and nines");
     for (digits, length, read) in INNER_LENGTHS {
-        assert_eq!(rt;
-            inner_length(rt.alloc(), digits, *length)?,
-            *read,
-            "at {digits} {length}"
-        );
+        same(&rt, inner_length(rt.alloc(), digits, *length), read);
     }
-    Ok(())
 }
 
 // The root string of version 258, of 65 bytes in blocks of 64, of height 1, with the top of sevens, after
@@ -168,49 +167,62 @@ fn root_258() -> Root {
     }
 }
 
-fn written_root(alloc: Global, root: &Root) -> Result<String, Fail> {
+fn written_root(alloc: Global, root: &Root) -> Result<String, Broken> {
     if !is_root(root) {
-        return Err(Fail::new("no root"));
+        return Err(Broken::Unfit);
     }
     let string = write_root(alloc, root)?;
-    Ok(hex::encode(alloc, string.as_slice())?)
+    digits_of(alloc, string.as_slice())
+}
+
+fn is_258(root: &Root) -> &'static str {
+    if *root == root_258() {
+        "version 258"
+    } else {
+        "another root"
+    }
+}
+
+fn told_root(alloc: Global, digits: &str) -> Result<String, Broken> {
+    let string = decoded(alloc, digits)?;
+    match read_root(string.as_slice()) {
+        Ok(root) => line(alloc, is_258(&root)),
+        Err(Malformed) => line(alloc, "none"),
+    }
 }
 
 #[test]
-fn root_strings(rt: HostRuntime) -> Result<(), Fail> {
-    assert_eq!(rt; written_root(rt.alloc(), &root_258())?.as_str(), ROOT);
-    let string = hex::decode(rt.alloc(), ROOT)?;
-    assert_eq!(rt; read_root(string.as_slice())?, root_258());
+fn root_strings(rt: HostRuntime) {
+    same(&rt, written_root(rt.alloc(), &root_258()), ROOT);
+    same(&rt, told_root(rt.alloc(), ROOT), "version 258");
     for digits in NO_ROOTS {
-        let string = hex::decode(rt.alloc(), digits)?;
-        assert_eq!(rt; read_root(string.as_slice()), Err(Malformed), "at {digits}");
+        same(&rt, told_root(rt.alloc(), digits), "none");
     }
-    Ok(())
 }
 
 // The length of a version and of its blocks, and the height of its tree.
-const HEIGHTS: &[(u32, u32, u8)] = &[
-    (0, 64, 0),
-    (64, 64, 0),
-    (65, 64, 1),
-    (4_096, 64, 1),
-    (4_097, 64, 2),
-    (262_144, 64, 2),
-    (262_145, 64, 3),
-    (1_048_576, 64, 3),
-    (1_048_576, 8_192, 2),
+const HEIGHTS: &[(u32, u32, &str)] = &[
+    (0, 64, "0"),
+    (64, 64, "0"),
+    (65, 64, "1"),
+    (4_096, 64, "1"),
+    (4_097, 64, "2"),
+    (262_144, 64, "2"),
+    (262_145, 64, "3"),
+    (1_048_576, 64, "3"),
+    (1_048_576, 8_192, "2"),
 ];
 
-// The heights below 4 with which a root of version 1 is one, as bits.
-fn heights_of(length: u32, block: u32) -> u8 {
+// The heights below 4 with which a root of version 1 is one.
+fn heights_of(alloc: Global, length: u32, block: u32) -> Result<String, Broken> {
     let top = if length == 0 { 0 } else { 7 };
-    let mut heights = 0;
-    for height in 0..4 {
+    let mut heights = String::new(alloc);
+    for (height, digit) in [(0, "0"), (1, "1"), (2, "2"), (3, "3")] {
         if is_root_of(1, length, block, height, top, 9) {
-            heights |= 1 << height;
+            heights.push_str(digit)?;
         }
     }
-    heights
+    Ok(heights)
 }
 
 fn is_root_of(version: u32, length: u32, block: u32, height: u8, top: u8, previous: u8) -> bool {
@@ -227,10 +239,7 @@ fn is_root_of(version: u32, length: u32, block: u32, height: u8, top: u8, previo
 #[test]
 fn root_heights(rt: HostRuntime) {
     for (length, block, height) in HEIGHTS {
-        assert_eq!(rt;
-            heights_of(*length, *block),
-            [1, 2, 4, 8][*height as usize % 4]
-        );
+        same(&rt, heights_of(rt.alloc(), *length, *block), height);
     }
 }
 
@@ -250,16 +259,16 @@ const FIRSTS: &[(u32, u32, u8, u8, bool)] = &[
 fn roots_of_version_0(rt: HostRuntime) {
     for (length, block, top, previous, expected) in FIRSTS {
         let found = is_root_of(0, *length, *block, 0, *top, *previous);
-        assert_eq!(rt; found, *expected, "at {length} {block} {top} {previous}");
+        holds(&rt, found == *expected, "a row of first roots");
     }
 }
 
+fn label_string(alloc: Global, text: &[u8]) -> Result<String, Broken> {
+    let string = write_label(alloc, &Label::read(text)?)?;
+    digits_of(alloc, string.as_slice())
+}
+
 #[test]
-fn label_strings(rt: HostRuntime) -> Result<(), Fail> {
-    let string = write_label(rt.alloc(), &Label::read(b"a0")?)?;
-    assert_eq!(rt;
-        hex::encode(rt.alloc(), string.as_slice())?.as_str(),
-        "076130"
-    );
-    Ok(())
+fn label_strings(rt: HostRuntime) {
+    same(&rt, label_string(rt.alloc(), b"a0"), "076130");
 }

@@ -1,12 +1,13 @@
 -- Messages to members.
-use Rattle.std.proofs.Common.{◌≡◌, ℕ, zero, suc, ◌+◌, ◌≤◌, List, [], ◌∷◌, ◌++◌, map, refl, sym, ap, subst, ◌∙◌, arith}
+use Rattle.std.proofs.Common.{◌≡◌, ℕ, zero, suc, ◌+◌, ◌≤◌, List, [], ◌∷◌, ◌++◌, map, sym, ap, subst, ◌∙◌, arith}
 use Rattle.std.specs.List.{AllByRecursion, range_with_len}
 use Rattle.std.proofs.lemmas.List.{map-append}
 use Rattle.std.proofs.lemmas.List.FromFn.{map-range_with_len_more}
 use Rattle.ring_message.specs.declared.message.Out.{Out}
 use Rattle.ring_model.specs.Messages.{Packet, Client, Member}
-use Rattle.message_model.specs.Meaning.{meaning, who}
-use Rattle.client_core.specs.Sending.{IsMember, sent, asks}
+use Rattle.message_model.specs.Meaning.{meaning}
+use Rattle.client_core.specs.Sending.{sent, asks}
+use Rattle.message_model.specs.Members.{IsMember, AreToMembers}
 
 -- a message from a client to a member
 abbrev pub packet : ℕ → ℕ → List ℕ → Packet
@@ -26,10 +27,10 @@ range_low : (a n : ℕ) (bytes : List ℕ) → a + n ≤ 10 → AllByRecursion (
 range_low a zero bytes few = tt
 range_low a (suc n) bytes few = (omega (arith, few), range_low (a + 1) n bytes (omega (arith, few)))
 
-all_sent : (outs : List Out) → AllByRecursion (λ (x : Packet). IsMember x.to) (map (sent 0) outs) → AllByRecursion (λ (out : Out). IsMember (who out.to)) outs
+all_sent : (outs : List Out) → AllByRecursion (λ (x : Packet). IsMember x.to) (map (sent 0) outs) → AreToMembers outs
 all_sent [] all = tt
 all_sent (out ∷ outs) all = (all.0, all_sent outs all.1)
 
 -- the receivers of a message to each of at most ten members
-pub all_low : (n : ℕ) (bytes : List ℕ) (outs : List Out) → n ≤ 10 → map (sent 0) outs ≡ asks n 0 bytes → AllByRecursion (λ (out : Out). IsMember (who out.to)) outs
+pub all_low : (n : ℕ) (bytes : List ℕ) (outs : List Out) → n ≤ 10 → map (sent 0) outs ≡ asks n 0 bytes → AreToMembers outs
 all_low n bytes outs few are = all_sent outs (subst (AllByRecursion (λ (x : Packet). IsMember x.to)) (sym are) (range_low 0 n bytes (omega (arith, few))))

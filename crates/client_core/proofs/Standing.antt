@@ -1,12 +1,12 @@
 -- A client that stands for letters stands for one letter more.
-use Rattle.std.proofs.Common.{◌≡◌, ℕ, zero, suc, ◌+◌, ◌*◌, ◌⊎◌, inl, inr, List, [], ◌∷◌, ◌++◌, Option, Some, None, map, length, slice_get, slice_index_or, arith, ◌<◌, Result, Ok, Err, IfOk, OnOk, refl, sym, ap, subst, ◌∙◌}
+use Rattle.std.proofs.Common.{◌≡◌, ℕ, zero, suc, ◌+◌, ◌*◌, inl, inr, List, [], ◌∷◌, ◌++◌, Option, Some, None, map, length, slice_get, slice_index_or, arith, ◌<◌, Result, Ok, Err, IfOk, OnOk, refl, sym, ap, subst, ◌∙◌}
 use Rattle.std.proofs.lemmas.List.{map-append}
 use Rattle.std.specs.List.{AllByRecursion, cons_option, range_with_len}
 use Rattle.ring_model.specs.Messages.{Party, Member, Client as client, Message, Request, Letter, Ring, Mark, Packet, to_members}
 use Rattle.ring_model.specs.World.{IsParty}
 use Rattle.ring_model.specs.Belief.{replied}
 use Rattle.message_model.specs.Meaning.{meaning, who, said, letter}
-use Rattle.message_model.specs.Laws.{OthersAreForeign, MeansOne}
+use Rattle.message_model.specs.Laws.{OthersAreForeign}
 use Rattle.pond_base.specs.declared.numbers.Party.{Party as Who}
 use Rattle.ring_message.specs.declared.message.Message.{Message as Told}
 use Rattle.ring_message.specs.Grammar.{IsMessage}

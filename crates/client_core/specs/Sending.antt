@@ -1,14 +1,9 @@
 -- What a client sends, as the model has it.
-use Rattle.std.specs.Prelude.{ℕ, ◌<◌, List, map}
+use Rattle.std.specs.Prelude.{ℕ, List, map}
 use Rattle.std.specs.List.{range_with_len}
 use Rattle.ring_message.specs.declared.message.Out.{Out}
-use Rattle.ring_model.specs.Messages.{Party, Packet, Member, Client}
+use Rattle.ring_model.specs.Messages.{Packet, Member, Client}
 use Rattle.message_model.specs.Meaning.{who, meaning}
-
--- one of the ten members that a ring has at most
-abbrev pub IsMember : Party → Type 0
-IsMember (Member j) = j < 10
-IsMember (Client c) = ⊥
 
 -- bytes that a client sends
 abbrev pub sent : ℕ → Out → Packet

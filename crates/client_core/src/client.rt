@@ -1,5 +1,6 @@
 // What a client keeps.
 ghost use Rattle.std.specs.Prelude.{◌<◌, ◌≤◌, length};
+ghost use Rattle.pond_base.specs.declared.limits.TheConstants.{MOST_CLIENTS, MOST_FAULTY, MOST_SLOTS};
 
 use crate::asking::Asked;
 use crate::replies::Replies;
@@ -17,7 +18,7 @@ pub struct Client {
     pub(crate) replies: Replies,
     pub(crate) hearts: Votes,
     pub(crate) seals: Votes,
-    ghost low: { id.0 < 16 },
-    ghost few: { f ≤ 3 },
-    ghost counted: { length requests.items ≤ 65536 },
+    ghost low: { id.0 < MOST_CLIENTS },
+    ghost few: { f ≤ MOST_FAULTY },
+    ghost counted: { length requests.items ≤ MOST_SLOTS },
 }

@@ -7,12 +7,16 @@ ghost use Rattle.ring_message.specs.Spelling.{outcome_string};
 ghost use Rattle.client_core.specs.Replies.{vote_of, first_at, value_at, count_at};
 
 use pond_base::MemberId;
+use pond_base::limits::MOST_FAULTY;
 use ring_message::Outcome;
+
+/// How many members a ring has at most.
+pub(crate) const MOST_MEMBERS: u8 = 3 * MOST_FAULTY + 1;
 
 /// The first reply of each member to a request, and the outcome that enough of them had first.
 #[derive(Clone, Copy, Debug)]
 pub struct Entry {
-    pub votes: [Option<Outcome>; 10],
+    pub votes: [Option<Outcome>; MOST_MEMBERS as usize],
     pub accepted: Option<Outcome>,
 }
 
@@ -54,14 +58,14 @@ impl Entry {
         ensures accepted { value_at (Some result) ≡ None }
     {
         Entry {
-            votes: [None; 10],
+            votes: [None; MOST_MEMBERS as usize],
             accepted: None,
         }
     }
 
     /// Keeps a member's reply where it is the member's first.
     fn note(&mut self, member: MemberId, outcome: &Outcome)
-        requires { member.0 < 10 }
+        requires { member.0 < MOST_MEMBERS }
         ensures votes { (j : ℕ) → vote_of self.new.votes j ≡ option_or (vote_of self.old.votes j) (cond (member.0 == j) (Some outcome.now) None) }
         ensures accepted { self.new.accepted ≡ self.old.accepted }
     {
@@ -74,7 +78,7 @@ impl Entry {
     /// Counts a member's reply, and accepts its outcome where it is the first that f + 1 of the 3f + 1
     /// members have.
     pub fn cast(&mut self, f: u8, member: MemberId, outcome: &Outcome)
-        requires { (f ≤ 3) × (member.0 < 10) }
+        requires { (f ≤ MOST_FAULTY) × (member.0 < MOST_MEMBERS) }
         ensures first { (j : ℕ) → first_at (Some self.new) j ≡ option_or (first_at (Some self.old) j) (cond (member.0 == j) (Some (outcome_string outcome.now)) None) }
         ensures accepted { value_at (Some self.new) ≡ option_or (value_at (Some self.old)) (passing (λ string. nat_le (f + 1) (count_at (3 * f + 1) (first_at (Some self.new)) string)) (Some (outcome_string outcome.now))) }
     {

@@ -5,7 +5,8 @@ ghost use Rattle.ring_model.specs.History.{passing};
 ghost use Rattle.ring_message.specs.Spelling.{outcome_string};
 ghost use Rattle.client_core.specs.Replies.{kept_at, first_at, accepted_at, value_at, count_at};
 
-use crate::entry::Entry;
+use crate::entry::{Entry, MOST_MEMBERS};
+use pond_base::limits::MOST_FAULTY;
 use pond_base::{MemberId, OutOfMemory};
 use ring_message::Outcome;
 use std::collections::BTreeMap;
@@ -32,7 +33,7 @@ pub fn take(
     number: u32,
     outcome: &Outcome,
 ) -> Result<(), OutOfMemory>
-    requires { (f ≤ 3) × (member.0 < 10) }
+    requires { (f ≤ MOST_FAULTY) × (member.0 < MOST_MEMBERS) }
     ensures first { OnOk result ((n j : ℕ) → first_at (kept_at replies.new.entries n) j ≡ option_or (first_at (kept_at replies.old.entries n) j) (cond (member.0 == j) (cond (number == n) (Some (outcome_string outcome.now)) None) None)) }
     ensures accepted { OnOk result ((n : ℕ) → value_at (kept_at replies.new.entries n) ≡ option_or (value_at (kept_at replies.old.entries n))
         (passing (λ string. nat_le (f + 1) (count_at (3 * f + 1) (first_at (kept_at replies.new.entries n)) string)) (cond (number == n) (Some (outcome_string outcome.now)) None))) }

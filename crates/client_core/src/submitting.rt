@@ -1,6 +1,5 @@
 // The requests that a client sends.
 ghost use Rattle.std.specs.Prelude.{◌≡◌, ◌<◌, ◌≤◌, ℕ, ◌+◌, ◌-◌, List, [], ◌∷◌, ◌++◌, length, slice_get, Some, map, IsTrue, OnOk, OnErr, IfOk};
-ghost use Rattle.std.specs.List.{AllByRecursion};
 ghost use Rattle.guarded_update.specs.Fitting.{IsRequest, update_fits};
 ghost use Rattle.guarded_update.specs.Spelling.{request_string};
 ghost use Rattle.tree_format.specs.Strings.{label_string};
@@ -9,14 +8,15 @@ ghost use Rattle.ring_model.specs.Messages.{Ring, Letter, to_members, Client as 
 ghost use Rattle.ring_model.specs.World.{asking};
 ghost use Rattle.message_model.specs.Reading.{IsRingOf};
 ghost use Rattle.client_core.specs.Naming.{Names};
-ghost use Rattle.message_model.specs.Meaning.{who};
-ghost use Rattle.client_core.specs.Sending.{IsMember, sent};
+ghost use Rattle.message_model.specs.Members.{AreToMembers};
+ghost use Rattle.client_core.specs.Sending.{sent};
 ghost use Rattle.client_core.specs.Clients.{ClientStands, next_request, texts_of};
 
 use crate::Client;
 use crate::asking::{Asked, message_of, name_request, to_each};
 use block_names::{Book, Hash160, NameFault};
 use guarded_update::{Request, Update};
+use pond_base::limits::MOST_SLOTS;
 use pond_base::{Label, OutOfMemory};
 use ring_message::Out;
 
@@ -31,14 +31,14 @@ impl Client {
         update: Update,
     ) -> Result<Vec<Out>, NameFault>
         requires fits { IsTrue (update_fits update) }
-        requires few { length self.old.requests.items < 65536 }
+        requires few { length self.old.requests.items < MOST_SLOTS }
         ensures stands { OnOk result ((g : Ring) (c : ℕ) (submits : List (List ℕ)) (got : List Letter) → ClientStands self.old g c submits got
             → ClientStands self.new g c (submits ++ request_string (next_request self.old label update) ∷ []) got) }
         ensures texts { OnOk result (texts_of self.new ≡ texts_of self.old ++ request_string (next_request self.old label update) ∷ []) }
         ensures allowed { OnOk result (IsRequest (next_request self.old label update)) }
         ensures sent { IfOk result (λ outs. (g : Ring) (c : ℕ) (submits : List (List ℕ)) (got : List Letter) → IsRingOf H.naming g → ClientStands self.old g c submits got
             → map (sent c) outs.items ≡ asking g (Some (request_string (next_request self.old label update)))) }
-        ensures seats { IfOk result (λ outs. AllByRecursion (λ out. IsMember (who out.to)) outs.items) }
+        ensures seats { IfOk result (λ outs. AreToMembers outs.items) }
         ensures names { Names H.naming (label_string label ∷ request_string (next_request self.old label update) ∷ []) book.old.held book.new.held result }
         ensures holds { OnOk result (Holds H.naming book.new.held (request_string (next_request self.old label update))) }
         ensures err { OnErr result ((g : Ring) (c : ℕ) (submits : List (List ℕ)) (got : List Letter) → ClientStands self.old g c submits got → ClientStands self.new g c submits got) }
@@ -61,7 +61,7 @@ impl Client {
         requires { (1 ≤ number) × (number ≤ length self.now.requests.items) }
         ensures sent { IfOk result (λ outs. (g : Ring) (c : ℕ) (submits : List (List ℕ)) (got : List Letter) (text : List ℕ) → ClientStands self.now g c submits got
             → slice_get submits (number - 1) ≡ Some text → map (sent c) outs.items ≡ to_members g (client c) (ARequest text)) }
-        ensures seats { IfOk result (λ outs. AllByRecursion (λ out. IsMember (who out.to)) outs.items) }
+        ensures seats { IfOk result (λ outs. AreToMembers outs.items) }
     {
         let asked = &self.requests[number as usize - 1];
         to_each(self.alloc, 3 * self.f + 1, &asked.message)

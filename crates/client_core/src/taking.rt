@@ -6,6 +6,7 @@ ghost use Rattle.ring_model.specs.World.{IsParty};
 ghost use Rattle.message_model.specs.Meaning.{who, said, letter};
 ghost use Rattle.client_core.specs.Clients.{ClientStands, texts_of};
 
+use crate::entry::MOST_MEMBERS;
 use crate::{Client, replies};
 use bytes::Bytes;
 use message_model::{messages_are_meant, others_are_foreign};
@@ -27,14 +28,14 @@ impl Client {
             return Ok(());
         };
         match ring_message::read(self.alloc, bytes)? {
-            Some(message) if member.0 < 10 => self.hear(member, &message),
+            Some(message) if member.0 < MOST_MEMBERS => self.hear(member, &message),
             _ => Ok(()),
         }
     }
 
     // Counts what a member tells. A want of memory changes nothing.
     fn hear(&mut self, member: MemberId, message: &Message) -> Result<(), OutOfMemory>
-        requires { member.0 < 10 }
+        requires { member.0 < MOST_MEMBERS }
         ensures stands { OnOk result ((g : Ring) (c : ℕ) (submits : List (List ℕ)) (got : List Letter) → member.0 < 3 * g.f + 1 → ClientStands self.old g c submits got
             → ClientStands self.new g c submits (record { from = model.Member member.0; message = said message.now } ∷ got)) }
         ensures texts { texts_of self.new ≡ texts_of self.old }

@@ -1,7 +1,7 @@
 // Which numbers have a code, and the rows of codes.
+use crate::telling::{Broken, decoded, digits_of, holds, same};
 use cauchy_code::Code;
 use std::alloc::Global;
-use std::test::Fail;
 
 // How many rows give a block back, how many rows there are, and whether there is such a code.
 const NUMBERS: &[(u8, u8, bool)] = &[
@@ -16,7 +16,7 @@ const NUMBERS: &[(u8, u8, bool)] = &[
 // The bytes of a block, and of each of 16 parts.
 const PART_LENGTHS: &[(usize, usize)] = &[(8192, 512), (8193, 513), (0, 0), (54, 4)];
 
-pub fn code_of(systematic: bool, m: u8, n: u8) -> Result<Code, Fail> {
+pub fn code_of(systematic: bool, m: u8, n: u8) -> Result<Code, Broken> {
     let code = if systematic {
         Code::systematic(m, n)
     } else {
@@ -24,52 +24,78 @@ pub fn code_of(systematic: bool, m: u8, n: u8) -> Result<Code, Fail> {
     };
     match code {
         Some(code) => Ok(code),
-        None => Err(Fail::new("no code")),
+        None => Err(Broken::Unfit),
+    }
+}
+
+fn part_length(size: usize) -> Option<usize> {
+    match Code::systematic(16, 32) {
+        Some(code) => Some(code.part_len(size)),
+        None => None,
+    }
+}
+
+fn is_16_of_32(code: Option<Code>, systematic: bool) -> bool {
+    match code {
+        Some(code) => code.m() == 16 && code.n() == 32 && code.is_systematic() == systematic,
+        None => false,
     }
 }
 
 #[test]
-fn numbers_of_codes(rt: HostRuntime) -> Result<(), Fail> {
+fn numbers_of_codes(rt: HostRuntime) {
     for (m, n, is_code) in NUMBERS {
-        assert_eq!(rt; Code::new(*m, *n).is_some(), *is_code, "at {m} {n}");
-        assert_eq!(rt; Code::systematic(*m, *n).is_some(), *is_code, "at {m} {n}");
+        holds(
+            &rt,
+            Code::new(*m, *n).is_some() == *is_code,
+            "a row of codes",
+        );
+        holds(
+            &rt,
+            Code::systematic(*m, *n).is_some() == *is_code,
+            "a row of codes",
+        );
     }
-    let code = code_of(true, 16, 32)?;
-    assert_eq!(rt; (code.m(), code.n(), code.is_systematic()), (16, 32, true));
-    assert!(rt; !code_of(false, 16, 32)?.is_systematic());
     for (size, length) in PART_LENGTHS {
-        assert_eq!(rt; code.part_len(*size), *length);
+        holds(&rt, part_length(*size) == Some(*length), "a row of lengths");
     }
-    Ok(())
+}
+
+#[test]
+fn kinds_of_codes(rt: HostRuntime) {
+    holds(
+        &rt,
+        is_16_of_32(Code::systematic(16, 32), true),
+        "systematic",
+    );
+    holds(&rt, is_16_of_32(Code::new(16, 32), false), "another one");
 }
 
 // Whether the code is systematic, its numbers, the bytes of the block, and the first and the last byte of
 // each row. The byte of the block at j is j * j + 7 * j + 3, where there are 100.
-const ROWS: &[(bool, u8, u8, &str, &str, &str)] = &[
-    (false, 2, 3, "0102", "7addf5", "7addf5"),
-    (true, 2, 3, "0102", "0102f5", "0102f5"),
-    (false, 1, 4, "01", "47a77aba", "47a77aba"),
-    (false, 1, 1, "01", "01", "01"),
+const ROWS: &[(bool, u8, u8, &str, &str)] = &[
+    (false, 2, 3, "0102", "7addf5 7addf5"),
+    (true, 2, 3, "0102", "0102f5 0102f5"),
+    (false, 1, 4, "01", "47a77aba 47a77aba"),
+    (false, 1, 1, "01", "01 01"),
     (
         false,
         3,
         11,
         "",
-        "4da4029e09b63015ca35f7",
-        "dee58020f51918fa46d741",
+        "4da4029e09b63015ca35f7 dee58020f51918fa46d741",
     ),
     (
         true,
         3,
         11,
         "",
-        "0375ef9e09b63015ca35f7",
-        "2b610020f51918fa46d741",
+        "0375ef9e09b63015ca35f7 2b610020f51918fa46d741",
     ),
 ];
 
-fn block_of(alloc: Global, digits: &str) -> Result<Vec<u8>, Fail> {
-    let mut block = hex::decode(alloc, digits)?;
+fn block_of(alloc: Global, digits: &str) -> Result<Vec<u8>, Broken> {
+    let mut block = decoded(alloc, digits)?;
     if block.is_empty() {
         for j in 0..100u32 {
             block.push(((j * j + 7 * j + 3) % 256) as u8)?;
@@ -84,60 +110,83 @@ fn rows_of(
     n: u8,
     alloc: Global,
     digits: &str,
-) -> Result<Vec<Vec<u8>>, Fail> {
+) -> Result<Vec<Vec<u8>>, Broken> {
     let code = code_of(systematic, m, n)?;
     let block = block_of(alloc, digits)?;
     Ok(code.encode(alloc, block.as_slice())?)
 }
 
-// The first byte of each row, in digits.
-fn firsts(alloc: Global, rows: &[Vec<u8>]) -> Result<String, Fail> {
-    let mut bytes = Vec::new(alloc);
-    for row in rows {
-        let Some(byte) = row.first() else {
-            return Err(Fail::new("an empty row"));
-        };
-        bytes.push(*byte)?;
+fn first_and_last(row: &[u8]) -> Result<(u8, u8), Broken> {
+    match (row.first(), row.last()) {
+        (Some(first), Some(last)) => Ok((*first, *last)),
+        _ => Err(Broken::Unfit),
     }
-    Ok(hex::encode(alloc, bytes.as_slice())?)
 }
 
-// The last byte of each row, in digits.
-fn lasts(alloc: Global, rows: &[Vec<u8>]) -> Result<String, Fail> {
+fn firsts(alloc: Global, rows: &[Vec<u8>]) -> Result<String, Broken> {
     let mut bytes = Vec::new(alloc);
     for row in rows {
-        let Some(byte) = row.last() else {
-            return Err(Fail::new("an empty row"));
-        };
-        bytes.push(*byte)?;
+        bytes.push(first_and_last(row.as_slice())?.0)?;
     }
-    Ok(hex::encode(alloc, bytes.as_slice())?)
+    digits_of(alloc, bytes.as_slice())
+}
+
+fn lasts(alloc: Global, rows: &[Vec<u8>]) -> Result<String, Broken> {
+    let mut bytes = Vec::new(alloc);
+    for row in rows {
+        bytes.push(first_and_last(row.as_slice())?.1)?;
+    }
+    digits_of(alloc, bytes.as_slice())
+}
+
+// The first bytes of the rows and then the last ones, in digits.
+fn told_rows(alloc: Global, rows: &[Vec<u8>]) -> Result<String, Broken> {
+    let mut text = firsts(alloc, rows)?;
+    text.push_str(" ")?;
+    let lasts = lasts(alloc, rows)?;
+    text.push_str(lasts.as_str())?;
+    Ok(text)
+}
+
+fn told_block(
+    alloc: Global,
+    systematic: bool,
+    m: u8,
+    n: u8,
+    digits: &str,
+) -> Result<String, Broken> {
+    let rows = rows_of(systematic, m, n, alloc, digits)?;
+    told_rows(alloc, rows.as_slice())
 }
 
 #[test]
-fn rows_of_blocks(rt: HostRuntime) -> Result<(), Fail> {
-    for (systematic, m, n, block, first, last) in ROWS {
-        let rows = rows_of(*systematic, *m, *n, rt.alloc(), block)?;
-        assert_eq!(rt; firsts(rt.alloc(), rows.as_slice())?.as_str(), *first);
-        assert_eq!(rt; lasts(rt.alloc(), rows.as_slice())?.as_str(), *last);
+fn rows_of_blocks(rt: HostRuntime) {
+    for (systematic, m, n, block, text) in ROWS {
+        same(
+            &rt,
+            told_block(rt.alloc(), *systematic, *m, *n, block),
+            text,
+        );
     }
-    Ok(())
+}
+
+fn row_of(alloc: Global, code: &Code, block: &[u8]) -> Result<String, Broken> {
+    if code.n() == 0 {
+        return Err(Broken::Unfit);
+    }
+    let row = code.row(alloc, 0, block)?;
+    digits_of(alloc, row.as_slice())
 }
 
 // Row 0 of a block.
-fn row_0(alloc: Global, systematic: bool, digits: &str) -> Result<String, Fail> {
+fn row_0(alloc: Global, systematic: bool, digits: &str) -> Result<String, Broken> {
     let code = code_of(systematic, 2, 3)?;
-    if code.n() == 0 {
-        return Err(Fail::new("no row"));
-    }
-    let block = hex::decode(alloc, digits)?;
-    let row = code.row(alloc, 0, block.as_slice())?;
-    Ok(hex::encode(alloc, row.as_slice())?)
+    let block = decoded(alloc, digits)?;
+    row_of(alloc, &code, block.as_slice())
 }
 
 #[test]
-fn rows_alone(rt: HostRuntime) -> Result<(), Fail> {
-    assert_eq!(rt; row_0(rt.alloc(), false, "010203")?.as_str(), "3df5");
-    assert_eq!(rt; row_0(rt.alloc(), true, "010203")?.as_str(), "0102");
-    Ok(())
+fn rows_alone(rt: HostRuntime) {
+    same(&rt, row_0(rt.alloc(), false, "010203"), "3df5");
+    same(&rt, row_0(rt.alloc(), true, "010203"), "0102");
 }

@@ -2,12 +2,12 @@
 ghost use Rattle.std.specs.Prelude.{◌≡◌, ◌*◌, length, IfOk};
 ghost use Rattle.gf_lanes.specs.ProductRows.{AreProducts, Serves};
 
+use crate::telling::{Broken, holds};
 use gf_lanes::{LANES, TABLE_BYTES, add_row, add_row_plain, fill_products, sum_four};
 use std::alloc::Global;
-use std::test::Fail;
 
 // So many bytes that are not in order.
-fn mixed_bytes(alloc: Global, count: usize) -> Result<Vec<u8>, Fail> {
+fn mixed_bytes(alloc: Global, count: usize) -> Result<Vec<u8>, Broken> {
     let mut bytes = Vec::new(alloc);
     for j in 0..count {
         bytes.push(((j % 256) as u8).wrapping_mul(89) ^ 0x5a)?;
@@ -15,36 +15,46 @@ fn mixed_bytes(alloc: Global, count: usize) -> Result<Vec<u8>, Fail> {
     Ok(bytes)
 }
 
-fn by_lanes(alloc: Global, c: u8, row: &[u8]) -> Result<Vec<u8>, Fail> {
+fn by_lanes(alloc: Global, c: u8, row: &[u8]) -> Result<Vec<u8>, Broken> {
     let mut sum = vec![in alloc; 0xc3; row.len()]?;
     add_row(sum.as_mut_slice(), c, row);
     Ok(sum)
 }
 
-fn plainly(alloc: Global, c: u8, row: &[u8]) -> Result<Vec<u8>, Fail> {
+fn plainly(alloc: Global, c: u8, row: &[u8]) -> Result<Vec<u8>, Broken> {
     let mut sum = vec![in alloc; 0xc3; row.len()]?;
     add_row_plain(sum.as_mut_slice(), c, row);
     Ok(sum)
 }
 
+fn is_plain_sum(alloc: Global, c: u8, row: &[u8]) -> Result<bool, Broken> {
+    let sum = by_lanes(alloc, c, row)?;
+    let plain = plainly(alloc, c, row)?;
+    Ok(sum.as_slice() == plain.as_slice())
+}
+
 // Whether both sums of each factor's product with a row are equal.
-fn are_equal(alloc: Global, row: &[u8]) -> Result<bool, Fail> {
+fn are_equal(alloc: Global, row: &[u8]) -> bool {
     for c in 0..=255u8 {
-        if by_lanes(alloc, c, row)?.as_slice() != plainly(alloc, c, row)?.as_slice() {
-            return Ok(false);
+        if !matches!(is_plain_sum(alloc, c, row), Ok(true)) {
+            return false;
         }
     }
-    Ok(true)
+    true
+}
+
+fn is_summed(alloc: Global, count: usize) -> bool {
+    match mixed_bytes(alloc, count) {
+        Ok(row) => row.len() == count && are_equal(alloc, row.as_slice()),
+        Err(_) => false,
+    }
 }
 
 #[test]
-fn lanes_are_the_plain_sum(rt: HostRuntime) -> Result<(), Fail> {
+fn lanes_are_the_plain_sum(rt: HostRuntime) {
     for count in 0..=100 {
-        let row = mixed_bytes(rt.alloc(), count)?;
-        assert_eq!(rt; row.len(), count);
-        assert!(rt; are_equal(rt.alloc(), row.as_slice())?, "at {count}");
+        holds(&rt, is_summed(rt.alloc(), count), "some count of bytes");
     }
-    Ok(())
 }
 
 #[test]
@@ -58,11 +68,11 @@ fn a_row_times_three(rt: HostRuntime) {
 const FACTORS: [[u8; 3]; 4] = [[2, 1, 0], [0x8e, 3, 0xff], [0, 0, 0], [0x80, 0x1d, 7]];
 
 // Four rows of `len` bytes one after the other, each a sum of three parts, by lanes.
-fn four_by_lanes(alloc: Global, table: &[u8], parts: &[u8], len: usize) -> Result<Vec<u8>, Fail>
+fn four_by_lanes(alloc: Global, table: &[u8], parts: &[u8], len: usize) -> Result<Vec<u8>, Broken>
     requires { Serves table.now len }
 {
     if len > 100 || parts.len() != 3 * len {
-        return Err(Fail::new("no three parts"));
+        return Err(Broken::Unfit);
     }
     let mut rows = vec![in alloc; 0xc3; 4 * len]?;
     sum_into(table, parts, len, rows.as_mut_slice());
@@ -92,7 +102,7 @@ fn sum_into(table: &[u8], parts: &[u8], len: usize, rows: &mut [u8])
 }
 
 // The same, plainly.
-fn four_plainly(alloc: Global, parts: &[u8], len: usize) -> Result<Vec<u8>, Fail> {
+fn four_plainly(alloc: Global, parts: &[u8], len: usize) -> Result<Vec<u8>, Broken> {
     let mut rows = Vec::new(alloc);
     for factors in &FACTORS {
         let row = plain_row(alloc, factors, parts, len)?;
@@ -101,9 +111,14 @@ fn four_plainly(alloc: Global, parts: &[u8], len: usize) -> Result<Vec<u8>, Fail
     Ok(rows)
 }
 
-fn plain_row(alloc: Global, factors: &[u8; 3], parts: &[u8], len: usize) -> Result<Vec<u8>, Fail> {
+fn plain_row(
+    alloc: Global,
+    factors: &[u8; 3],
+    parts: &[u8],
+    len: usize,
+) -> Result<Vec<u8>, Broken> {
     if len > 100 || parts.len() != 3 * len {
-        return Err(Fail::new("no three parts"));
+        return Err(Broken::Unfit);
     }
     let mut row = vec![in alloc; 0; len]?;
     add_row_plain(row.as_mut_slice(), factors[0], &parts[..len]);
@@ -112,7 +127,7 @@ fn plain_row(alloc: Global, factors: &[u8; 3], parts: &[u8], len: usize) -> Resu
     Ok(row)
 }
 
-fn products(alloc: Global) -> Result<Vec<u8>, Fail>
+fn products(alloc: Global) -> Result<Vec<u8>, Broken>
     ensures { IfOk result (λ table. AreProducts table.items) }
 {
     let mut table = vec![in alloc; 0xc3; TABLE_BYTES]?;
@@ -121,7 +136,7 @@ fn products(alloc: Global) -> Result<Vec<u8>, Fail>
 }
 
 // Whether both ways of summing rows of `len` bytes give the same.
-fn are_plain_sums(alloc: Global, table: &[u8], len: usize) -> Result<bool, Fail>
+fn are_plain_sums(alloc: Global, table: &[u8], len: usize) -> Result<bool, Broken>
     requires { Serves table.now len }
 {
     let parts = mixed_bytes(alloc, len.saturating_mul(3))?;
@@ -130,22 +145,35 @@ fn are_plain_sums(alloc: Global, table: &[u8], len: usize) -> Result<bool, Fail>
     Ok(sums.len() == len.saturating_mul(4) && sums.as_slice() == plain.as_slice())
 }
 
-#[test]
-fn four_rows_are_plain_sums(rt: HostRuntime) -> Result<(), Fail> {
-    let table = products(rt.alloc())?;
-    for len in 0..=70 {
-        assert!(rt;
-            are_plain_sums(rt.alloc(), table.as_slice(), len)?,
-            "at {len}"
-        );
+// How many of the first lengths give plain sums, up to the first that does not.
+fn plain_sums(alloc: Global, table: &[u8], lengths: usize) -> usize
+    requires { AreProducts table.now }
+{
+    for len in 0..lengths {
+        if !matches!(are_plain_sums(alloc, table, len), Ok(true)) {
+            return len;
+        }
     }
-    Ok(())
+    lengths
 }
 
 #[test]
-fn four_short_rows_need_no_table(rt: HostRuntime) -> Result<(), Fail> {
+fn four_rows_are_plain_sums(rt: HostRuntime) {
+    let sums = match products(rt.alloc()) {
+        Ok(table) => plain_sums(rt.alloc(), table.as_slice(), 71),
+        Err(_) => 0,
+    };
+    holds(&rt, sums == 71, "some length up to 70");
+}
+
+#[test]
+fn four_short_rows_need_no_table(rt: HostRuntime) {
     for len in 0..LANES {
-        assert!(rt; are_plain_sums(rt.alloc(), &[], len)?, "at {len}");
+        let sums = are_plain_sums(rt.alloc(), &[], len);
+        holds(
+            &rt,
+            matches!(sums, Ok(true)),
+            "some length below that of a lane",
+        );
     }
-    Ok(())
 }

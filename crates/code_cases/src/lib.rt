@@ -10,3 +10,5 @@ mod field;
 mod lanes;
 #[cfg(test)]
 mod rebuilding;
+#[cfg(test)]
+mod telling;

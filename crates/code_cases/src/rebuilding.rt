@@ -4,11 +4,11 @@ ghost use Rattle.std.specs.List.{range_with_len};
 ghost use Rattle.cauchy_code.specs.Code.{part_length, AllLong};
 
 use crate::codes::code_of;
+use crate::telling::{Broken, add_number, digits_of, holds, same};
 use bytes::Bytes;
 use cauchy_code::{Code, Inverses};
 use pond_base::OutOfMemory;
 use std::alloc::Global;
-use std::test::Fail;
 
 // Whether the code 2 of 3 is systematic, and two rows of the block 01 02: their indexes and their bytes.
 const PAIRS: &[(bool, u8, u8, u8, u8)] = &[
@@ -42,34 +42,40 @@ fn rebuilt(alloc: Global, code: &Code, a: u8, x: u8, b: u8, y: u8) -> Result<Vec
     code.rebuild(alloc, 2, &parts)
 }
 
-fn pair_rebuilt(alloc: Global, code: &Code, a: u8, x: u8, b: u8, y: u8) -> Result<String, Fail> {
+fn pair_rebuilt(alloc: Global, code: &Code, a: u8, x: u8, b: u8, y: u8) -> Result<String, Broken> {
     if code.m() != 2 || a >= code.n() || b >= code.n() || a == b {
-        return Err(Fail::new("no two rows"));
+        return Err(Broken::Unfit);
     }
     let block = rebuilt(alloc, code, a, x, b, y)?;
-    Ok(hex::encode(alloc, block.as_slice())?)
+    digits_of(alloc, block.as_slice())
+}
+
+fn of_pair(alloc: Global, systematic: bool, a: u8, x: u8, b: u8, y: u8) -> Result<String, Broken> {
+    let code = code_of(systematic, 2, 3)?;
+    pair_rebuilt(alloc, &code, a, x, b, y)
 }
 
 #[test]
-fn pairs_rebuild(rt: HostRuntime) -> Result<(), Fail> {
+fn pairs_rebuild(rt: HostRuntime) {
     for (systematic, a, x, b, y) in PAIRS {
-        let code = code_of(*systematic, 2, 3)?;
-        assert_eq!(rt;
-            pair_rebuilt(rt.alloc(), &code, *a, *x, *b, *y)?.as_str(),
-            "0102"
+        same(
+            &rt,
+            of_pair(rt.alloc(), *systematic, *a, *x, *b, *y),
+            "0102",
         );
     }
-    Ok(())
 }
 
-// Two rows of the block 01 02 by the code 2 of 3, and how many lists are kept after they were rebuilt with
-// those before, where 8 may be kept and where 1 may.
-const KEPT: &[(u8, u8, u8, u8, u32, u32)] = &[
-    (0, 0x7a, 1, 0xdd, 1, 1),
-    (0, 0x7a, 1, 0xdd, 1, 1),
-    (1, 0xdd, 2, 0xf5, 2, 1),
-    (0, 0x7a, 1, 0xdd, 2, 1),
+// Two rows of the block 01 02 by the code 2 of 3, one list after the other.
+const KEPT: &[(u8, u8, u8, u8)] = &[
+    (0, 0x7a, 1, 0xdd),
+    (0, 0x7a, 1, 0xdd),
+    (1, 0xdd, 2, 0xf5),
+    (0, 0x7a, 1, 0xdd),
 ];
+
+// How many lists may be kept, and how many are after each of `KEPT` was rebuilt with those before.
+const KEPT_COUNTS: &[(u32, &str)] = &[(8, " 1 1 2 2"), (1, " 1 1 1 1")];
 
 fn rebuilt_again(
     alloc: Global,
@@ -78,54 +84,53 @@ fn rebuilt_again(
     x: u8,
     b: u8,
     y: u8,
-) -> Result<Vec<u8>, Fail>
+) -> Result<Vec<u8>, Broken>
     requires two { inverses.old.code.m ≡ 2 }
     requires three { inverses.old.code.n ≡ 3 }
     ensures { inverses.new.code ≡ inverses.old.code }
 {
     if a > 2 || b > 2 || a == b {
-        return Err(Fail::new("no two rows"));
+        return Err(Broken::Unfit);
     }
     let parts = two_parts(alloc, a, x, b, y)?;
     Ok(inverses.rebuild(2, &parts)?)
 }
 
+fn add_kept(alloc: Global, text: &mut String, block: &[u8], kept: u32) -> Result<(), Broken> {
+    if block != [1, 2].as_slice() {
+        text.push_str(" not rebuilt")?;
+    }
+    add_number(alloc, text, " ", kept as u64)
+}
+
 // The counts of lists that are kept after each of `KEPT`, where so many may be kept.
-fn kept_of(alloc: Global, code: &Code, size: u32) -> Result<Vec<u32>, Fail>
+fn kept_of(alloc: Global, code: &Code, size: u32) -> Result<String, Broken>
     requires two { code.now.m ≡ 2 }
     requires three { code.now.n ≡ 3 }
     requires some { 1 ≤ size }
 {
     let mut inverses = Inverses::new(alloc, code, size)?;
-    let mut counts = Vec::new(alloc);
-    for (a, x, b, y, _, _) in KEPT {
+    let mut text = String::new(alloc);
+    for (a, x, b, y) in KEPT {
         let block = rebuilt_again(alloc, &mut inverses, *a, *x, *b, *y)?;
-        if block.as_slice() != [1, 2].as_slice() {
-            return Err(Fail::new("not rebuilt"));
-        }
-        counts.push(inverses.kept())?;
+        add_kept(alloc, &mut text, block.as_slice(), inverses.kept())?;
     }
-    Ok(counts)
+    Ok(text)
 }
 
-fn kept(alloc: Global, size: u32) -> Result<Vec<u32>, Fail> {
+fn kept(alloc: Global, size: u32) -> Result<String, Broken> {
     let code = code_of(false, 2, 3)?;
     if size == 0 || code.m() != 2 || code.n() != 3 {
-        return Err(Fail::new("nothing may be kept"));
+        return Err(Broken::Unfit);
     }
     kept_of(alloc, &code, size)
 }
 
 #[test]
-fn kept_lists(rt: HostRuntime) -> Result<(), Fail> {
-    let of_eight = kept(rt.alloc(), 8)?;
-    let of_one = kept(rt.alloc(), 1)?;
-    assert_eq!(rt; of_eight.len(), KEPT.len());
-    for (at, (_, _, _, _, eight, one)) in KEPT.iter().enumerate() {
-        assert_eq!(rt; of_eight.get(at), Some(eight), "at {at}");
-        assert_eq!(rt; of_one.get(at), Some(one), "at {at}");
+fn kept_lists(rt: HostRuntime) {
+    for (size, text) in KEPT_COUNTS {
+        same(&rt, kept(rt.alloc(), *size), text);
     }
-    Ok(())
 }
 
 // The rows from `from` on, as many as rebuild.
@@ -161,15 +166,15 @@ fn rebuilt_by_last(
     systematic: bool,
     from: u8,
     block: &[u8],
-) -> Result<Vec<u8>, Fail> {
+) -> Result<Vec<u8>, Broken> {
     let code = code_of(systematic, 32, 64)?;
     if code.m() != 32 || code.n() != 64 || from > 32 {
-        return Err(Fail::new("no such rows"));
+        return Err(Broken::Unfit);
     }
     Ok(rebuilt_from(alloc, &code, from, block)?)
 }
 
-fn mixed_block(alloc: Global) -> Result<Vec<u8>, Fail> {
+fn mixed_block(alloc: Global) -> Result<Vec<u8>, Broken> {
     let mut block = Vec::new(alloc);
     for j in 0..8193u32 {
         block.push((j.wrapping_mul(2_654_435_761) >> 24) as u8)?;
@@ -177,17 +182,33 @@ fn mixed_block(alloc: Global) -> Result<Vec<u8>, Fail> {
     Ok(block)
 }
 
-#[test]
-fn last_rows_of_the_largest_code(rt: HostRuntime) -> Result<(), Fail> {
-    let block = mixed_block(rt.alloc())?;
-    assert_eq!(rt; block.len(), 8193);
-    for (systematic, from) in [(false, 32), (false, 7), (true, 32), (true, 7)] {
-        let rebuilt = rebuilt_by_last(rt.alloc(), systematic, from, block.as_slice())?;
-        assert_eq!(rt;
-            rebuilt.as_slice(),
-            block.as_slice(),
-            "at {systematic} {from}"
-        );
+// Whether a code is systematic, and the first of the rows that rebuild the block.
+const LAST: &[(bool, u8)] = &[(false, 32), (false, 7), (true, 32), (true, 7)];
+
+fn is_rebuilt(alloc: Global, systematic: bool, from: u8, block: &[u8]) -> bool {
+    match rebuilt_by_last(alloc, systematic, from, block) {
+        Ok(rebuilt) => block.len() == 8193 && rebuilt.as_slice() == block,
+        Err(_) => false,
     }
-    Ok(())
+}
+
+// How many of the rows of `LAST` rebuild the block, up to the first that does not.
+fn rebuilt_count(alloc: Global, block: &[u8]) -> usize {
+    let mut count: usize = 0;
+    for (systematic, from) in LAST {
+        if !is_rebuilt(alloc, *systematic, *from, block) {
+            return count;
+        }
+        count = count.saturating_add(1);
+    }
+    count
+}
+
+#[test]
+fn last_rows_of_the_largest_code(rt: HostRuntime) {
+    let count = match mixed_block(rt.alloc()) {
+        Ok(block) => rebuilt_count(rt.alloc(), block.as_slice()),
+        Err(_) => 0,
+    };
+    holds(&rt, count == LAST.len(), "some row of the last");
 }

@@ -38,7 +38,7 @@ same_key o p v w e = each (bytes_eq o p) (v == w) refl refl e
     each true false s t e = absurd (cc e)
     each false b s t e = absurd (cc e)
 
-key_total : IsTotalOrder key_cmp
+pub key_total : IsTotalOrder key_cmp
 key_total = then_total (on_total (λ (k : Key). k.0) nat_list_cmp_total) (on_total (λ (k : Key). k.1.0) nat_cmp_total)
 
 find_is : (es : List (Key × Entry)) (k : Key) → find key_cmp k es ≡ kept_at es k

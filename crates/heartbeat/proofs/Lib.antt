@@ -1,4 +1,5 @@
 pub mod Keys
 pub mod Standing
 pub mod Latest
+pub mod Own
 pub mod Joined

@@ -1,9 +1,10 @@
 // What is kept for each version of an object.
-ghost use Rattle.std.specs.Prelude.{◌≡◌, ◌<◌, ℕ, List, Some, None, All, OnOk, OnErr};
+ghost use Rattle.std.specs.Prelude.{◌≡◌, ◌<◌, ℕ, List, Some, None, OnOk, OnErr};
 ghost use Rattle.std.specs.Option.{option_or};
-ghost use Rattle.heartbeat.specs.Votes.{value_for, said_of, believed_then};
-ghost use Rattle.heartbeat.specs.Boards.{key_of, kept_at, first_at, value_at};
-ghost use Rattle.heartbeat.specs.Newest.{later_of, newest_among};
+ghost use Rattle.std.specs.BTreeMap.{IsOrdered};
+ghost use Rattle.heartbeat.specs.Votes.{value_for, said_of, believed_then, later_value};
+ghost use Rattle.heartbeat.specs.Boards.{key_cmp, key_of, kept_at, first_at, value_at};
+ghost use Rattle.heartbeat.specs.Newest.{newest_among};
 
 use crate::entry::Entry;
 use pond_base::{MemberId, Name, OutOfMemory, Version};
@@ -46,37 +47,31 @@ pub fn take(
     }
 }
 
-/// The later of what was found before and what an entry has accepted for the object.
-fn later(
-    before: Option<(Version, Name)>,
-    object: Name,
-    key: (Name, Version),
-    entry: Entry,
-) -> Option<(Version, Name)>
-    ensures { result ≡ later_of object before (key, entry) }
+/// The later of what was found before and what the entry of a version has accepted.
+fn later(before: Option<(Version, Name)>, version: Version, entry: Entry) -> Option<(Version, Name)>
+    ensures { result ≡ later_value before version entry.accepted }
 {
     let Some(value) = entry.accepted else {
         return before;
     };
-    let is_later = match before {
-        Some((earlier, _)) => earlier <= key.1,
-        None => true,
-    };
-    if key.0 == object && is_later {
-        Some((key.1, value))
-    } else {
-        before
+    match before {
+        Some((earlier, _)) if earlier > version => before,
+        _ => Some((version, value)),
     }
 }
 
-/// The greatest version of an object with an accepted value, and this value.
+/// The greatest version of an object with an accepted value, and this value. Reads the entries of the
+/// object, which stand together, and the key after them.
 pub fn newest_in(entries: &Entries, object: Name) -> Option<(Version, Name)>
     ensures value { result ≡ newest_among object None entries.now.entries }
-    ensures found { All (λ e. kept_at entries.now.entries e.0 ≡ Some e.1) entries.now.entries }
+    ensures ordered { IsOrdered key_cmp entries.now }
 {
     let mut newest: Option<(Version, Name)> = None;
-    for (key, entry) in entries.iter() {
-        newest = later(newest, object, *key, *entry);
+    for (key, entry) in entries.range((object, Version(0))..) {
+        if key.0 != object {
+            return newest;
+        }
+        newest = later(newest, key.1, *entry);
     }
     newest
 }

@@ -71,7 +71,7 @@ impl Votes {
     }
 
     /// The greatest version of an object that has a believed value, with this value, if there is one.
-    /// Takes no memory.
+    /// Reads what is kept of this object, and of no other. Takes no memory.
     pub fn newest(&self, object: Name) -> Option<(Version, Name)>
         ensures { (need : ℕ) (votes : List Vote) → StandsFor need self.now votes → result ≡ newest_of need object votes }
     {

@@ -9,7 +9,7 @@ ghost use Rattle.member_orders.specs.Told.{told_from, next_of, orders_told};
 ghost use Rattle.member_orders.specs.Standing.{Stands};
 
 use bytes::Bytes;
-use pond_base::limits::MOST_SLOTS;
+use pond_base::limits::{MOST_CLIENTS, MOST_SLOTS};
 use pond_base::{ClientId, OutOfMemory, Seq};
 use ring_message::Message;
 use std::alloc::Global;
@@ -26,7 +26,7 @@ pub struct Turn {
 #[derive(Drop)]
 pub struct Orders {
     pub waiting: BTreeMap<Turn, Bytes>,
-    pub counts: [u32; 16],
+    pub counts: [u32; MOST_CLIENTS as usize],
     pub ordered: u32,
 }
 
@@ -34,11 +34,11 @@ impl Orders {
     /// The orders of a primary that no request came to. Takes no memory.
     pub fn new(alloc: Global) -> Orders
         ensures whole { IsWhole result }
-        ensures stands { (g : Ring) → g.slots ≡ 65536 → Stands g (view_of result) [] }
+        ensures stands { (g : Ring) → g.slots ≡ MOST_SLOTS → Stands g (view_of result) [] }
     {
         Orders {
             waiting: BTreeMap::new(alloc),
-            counts: [0; 16],
+            counts: [0; MOST_CLIENTS as usize],
             ordered: 0,
         }
     }
@@ -53,7 +53,7 @@ impl Orders {
         request: Bytes,
     ) -> Result<Vec<Message>, OutOfMemory>
         requires whole { IsWhole self.old }
-        requires few { client.0 < 16 }
+        requires few { client.0 < MOST_CLIENTS }
         requires string { IsRequestString request }
         ensures whole { IsWhole self.new }
         ensures stands { OnOk result ((g : Ring) (got : List Letter) → g.owner request ≡ client.0 → g.number request ≡ number → Stands g (view_of self.old) got
@@ -86,8 +86,8 @@ impl Orders {
 
     // Takes out the next request of a client.
     fn next(&mut self, client: ClientId) -> Option<Bytes>
-        requires few { client.0 < 16 }
-        requires room { (view_of self.old).count client.0 < 65536 }
+        requires few { client.0 < MOST_CLIENTS }
+        requires room { (view_of self.old).count client.0 < MOST_SLOTS }
         ensures taken { IfSome result (λ request. Takes (view_of self.old) client.0 request (view_of self.new)) }
         ensures none { result ≡ None → Lacks (view_of self.old) client.0 (view_of self.new) }
     {
@@ -104,11 +104,11 @@ impl Orders {
 
     // Orders a request, as far as there are sequence numbers.
     fn order(&mut self, request: Bytes, told: &mut Vec<Message>) -> Result<(), OutOfMemory>
-        requires few { self.old.ordered ≤ 65536 }
+        requires few { self.old.ordered ≤ MOST_SLOTS }
         requires string { IsAsked request }
         ensures told { OnOk result (map said told.new.items ≡ map said told.old.items ++ told_from self.old.ordered (request ∷ [])) }
         ensures fits { OnOk result (AllByRecursion MessageFits told.old.items → AllByRecursion MessageFits told.new.items) }
-        ensures ordered { self.new.ordered ≡ min (self.old.ordered + 1) 65536 }
+        ensures ordered { self.new.ordered ≡ min (self.old.ordered + 1) MOST_SLOTS }
         ensures waiting { self.new.waiting ≡ self.old.waiting }
         ensures counts { self.new.counts ≡ self.old.counts }
     {
@@ -125,7 +125,7 @@ impl Orders {
     // Orders the requests of a client that became next, one after the other.
     fn order_next(&mut self, client: ClientId, told: &mut Vec<Message>) -> Result<(), OutOfMemory>
         requires whole { IsWhole self.old }
-        requires few { client.0 < 16 }
+        requires few { client.0 < MOST_CLIENTS }
         ensures whole { IsWhole self.new }
         ensures told { OnOk result (map said told.new.items ≡ map said told.old.items ++ told_from self.old.ordered (next_of (view_of self.old) client.0)) }
         ensures fits { OnOk result (AllByRecursion MessageFits told.old.items → AllByRecursion MessageFits told.new.items) }

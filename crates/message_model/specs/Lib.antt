@@ -1,4 +1,5 @@
 pub mod Laws
 pub mod Meaning
+pub mod Members
 pub mod Reading
 pub mod Requests

@@ -7,6 +7,8 @@ mod objects;
 #[cfg(test)]
 mod tall;
 #[cfg(test)]
+mod telling;
+#[cfg(test)]
 mod trees;
 #[cfg(test)]
 mod walks;

@@ -2,11 +2,12 @@
 ghost use Rattle.std.specs.Prelude.{OnOk};
 ghost use Rattle.object_fold.specs.Executed.{AreKnown};
 
+use crate::telling::{Broken, add, add_number, decoded, digits_of, digits_of_name, line, same};
 use block_names::{Book, Hash160, Sha1Hash};
+use cow_tree::Tree;
 use object_fold::{Objects, Outcome, made_strings_are_held, objects_stay_known, versions_are_few};
 use pond_base::{Label, Name, Version};
 use std::alloc::Global;
-use std::test::Fail;
 
 // Requests in hexadecimal digits, and what is told of them: the outcome of each, the bytes of each
 // version that was made, the newest versions of `a` and `c`, the number of namings, version 0 of `a`, and
@@ -78,35 +79,48 @@ pub fn run<H: Hash160 + Drop>(
     book: &mut Book<H>,
     objects: &mut Objects,
     bytes: &[u8],
-) -> Result<String, Fail>
+) -> Result<String, Broken>
     requires { AreKnown H.naming book.old.held objects.old }
     ensures { OnOk result (AreKnown H.naming book.new.held objects.new) }
 {
     let request = guarded_update::read(alloc, bytes)?;
     if objects.made().len() >= 1000 {
-        return Err(Fail::new("too many versions"));
+        return Err(Broken::Unfit);
     }
     told(alloc, objects.execute(book, &request)?)
 }
 
 // An outcome as a line.
-fn told(alloc: Global, outcome: Outcome) -> Result<String, Fail> {
+fn told(alloc: Global, outcome: Outcome) -> Result<String, Broken> {
     match outcome {
         Outcome::Made { version, name } => made(alloc, version.0, name),
-        Outcome::NoClause => line(alloc, "no clause"),
-        Outcome::OutOfRange => line(alloc, "out of range"),
-        Outcome::TooLong => line(alloc, "too long"),
-        Outcome::Repeat => line(alloc, "repeat"),
+        Outcome::NoClause => line(alloc, "no clause\n"),
+        Outcome::OutOfRange => line(alloc, "out of range\n"),
+        Outcome::TooLong => line(alloc, "too long\n"),
+        Outcome::Repeat => line(alloc, "repeat\n"),
     }
 }
 
-fn line(alloc: Global, text: &str) -> Result<String, Fail> {
-    Ok(format!(in alloc; "{text}\n")?)
+fn made(alloc: Global, version: u32, name: Name) -> Result<String, Broken> {
+    let mut text = String::new(alloc);
+    add_number(alloc, &mut text, "made ", version as u64)?;
+    text.push_str(" ")?;
+    add(&mut text, digits_of_name(alloc, name))?;
+    text.push_str("\n")?;
+    Ok(text)
 }
 
-fn made(alloc: Global, version: u32, name: Name) -> Result<String, Fail> {
-    let digits = hex::encode(alloc, name.bytes().as_slice())?;
-    Ok(format!(in alloc; "made {version} {digits}\n")?)
+fn run_digits<H: Hash160 + Drop>(
+    alloc: Global,
+    book: &mut Book<H>,
+    objects: &mut Objects,
+    digits: &str,
+) -> Result<String, Broken>
+    requires { AreKnown H.naming book.old.held objects.old }
+    ensures { OnOk result (AreKnown H.naming book.new.held objects.new) }
+{
+    let bytes = decoded(alloc, digits)?;
+    run(alloc, book, objects, bytes.as_slice())
 }
 
 // Executes requests, and tells the outcome of each.
@@ -116,96 +130,125 @@ fn run_all<H: Hash160 + Drop>(
     objects: &mut Objects,
     rows: &[&str],
     out: &mut String,
-) -> Result<(), Fail>
+) -> Result<(), Broken>
     requires { AreKnown H.naming book.old.held objects.old }
 {
     for digits in rows {
-        let bytes = hex::decode(alloc, digits)?;
-        let line = run(alloc, book, objects, bytes.as_slice())?;
+        let line = run_digits(alloc, book, objects, digits)?;
         out.push_str(line.as_str())?;
     }
     Ok(())
 }
 
 // Tells the bytes of each version that was made.
-fn tell_versions(alloc: Global, objects: &Objects, out: &mut String) -> Result<(), Fail> {
+fn tell_versions(alloc: Global, objects: &Objects, out: &mut String) -> Result<(), Broken> {
     for (label, version) in objects.made() {
-        let line = version_line(alloc, objects, label, *version)?;
-        out.push_str(line.as_str())?;
+        tell_version(alloc, objects, label, *version, out)?;
     }
     Ok(())
 }
 
-fn version_line(
+fn tell_version(
     alloc: Global,
     objects: &Objects,
     label: &Label,
     version: Version,
-) -> Result<String, Fail> {
-    let digits = digits_of(alloc, objects, label, version)?;
-    let label = hex::encode(alloc, label.bytes())?;
-    Ok(format!(in alloc; "{label} {} {digits}\n", version.0)?)
+    out: &mut String,
+) -> Result<(), Broken> {
+    add(out, digits_of(alloc, label.bytes()))?;
+    add_number(alloc, out, " ", version.0 as u64)?;
+    out.push_str(" ")?;
+    add(out, version_digits(alloc, objects, label, version))?;
+    out.push_str("\n")?;
+    Ok(())
 }
 
 // The bytes of a version.
-fn digits_of(
+fn version_digits(
     alloc: Global,
     objects: &Objects,
     label: &Label,
     version: Version,
-) -> Result<String, Fail> {
+) -> Result<String, Broken> {
     match objects.tree(label, version) {
-        Some(tree) => Ok(hex::encode(alloc, tree.bytes()?.as_slice())?),
-        None => Err(Fail::new("no version")),
+        Some(tree) => tree_digits(alloc, tree),
+        None => Err(Broken::Unfit),
     }
 }
 
-fn newest(objects: &Objects, label: &[u8]) -> Result<u32, Fail> {
+fn tree_digits(alloc: Global, tree: &Tree) -> Result<String, Broken> {
+    let bytes = tree.bytes()?;
+    digits_of(alloc, bytes.as_slice())
+}
+
+fn newest(objects: &Objects, label: &[u8]) -> Result<u32, Broken> {
     let label = Label::read(label)?;
     Ok(objects.last(&label).0)
 }
 
-fn has_next(objects: &Objects, label: &[u8]) -> Result<bool, Fail> {
-    let label = Label::read(label)?;
-    let next = objects.last(&label).0.wrapping_add(1);
-    Ok(objects.tree(&label, Version(next)).is_some())
+fn next(objects: &Objects, label: &Label) -> &'static str {
+    let next = objects.last(label).0.wrapping_add(1);
+    match objects.tree(label, Version(next)) {
+        Some(_) => "true",
+        None => "false",
+    }
 }
 
-fn tell_ends(alloc: Global, objects: &Objects, out: &mut String) -> Result<(), Fail> {
-    let first = digits_of(alloc, objects, &Label::read(b"a")?, Version(0))?;
-    let next = has_next(objects, b"a")?;
-    let line = format!(in alloc; " first {first}- next {next}\n")?;
-    out.push_str(line.as_str())?;
+fn tell_ends(alloc: Global, objects: &Objects, out: &mut String) -> Result<(), Broken> {
+    let label = Label::read(b"a")?;
+    out.push_str(" first ")?;
+    add(out, version_digits(alloc, objects, &label, Version(0)))?;
+    out.push_str("- next ")?;
+    out.push_str(next(objects, &label))?;
+    out.push_str("\n")?;
     Ok(())
 }
 
-fn tell_last(alloc: Global, objects: &Objects, namings: u64, out: &mut String) -> Result<(), Fail> {
-    let a = newest(objects, b"a")?;
-    let c = newest(objects, b"c")?;
-    let line = format!(in alloc; "newest {a} {c} namings {namings}")?;
-    out.push_str(line.as_str())?;
-    Ok(())
+fn tell_last(
+    alloc: Global,
+    objects: &Objects,
+    namings: u64,
+    out: &mut String,
+) -> Result<(), Broken> {
+    add_number(alloc, out, "newest ", newest(objects, b"a")? as u64)?;
+    add_number(alloc, out, " ", newest(objects, b"c")? as u64)?;
+    add_number(alloc, out, " namings ", namings)
 }
 
-// What is told of a case.
-fn tell(alloc: Global, rows: &[&str]) -> Result<String, Fail> {
+// What is told of a case, with a book and objects in which nothing was made.
+fn tell_in<H: Hash160 + Drop>(
+    alloc: Global,
+    book: &mut Book<H>,
+    objects: &mut Objects,
+    rows: &[&str],
+) -> Result<String, Broken>
+    requires { AreKnown H.naming book.old.held objects.old }
+{
     let mut out = String::new(alloc);
-    let mut book = Book::new(alloc, Sha1Hash);
-    let mut objects = Objects::new(alloc, &mut book, 64)?;
-    run_all(alloc, &mut book, &mut objects, rows, &mut out)?;
-    tell_versions(alloc, &objects, &mut out)?;
-    tell_last(alloc, &objects, book.namings(), &mut out)?;
-    tell_ends(alloc, &objects, &mut out)?;
+    run_all(alloc, book, objects, rows, &mut out)?;
+    tell_versions(alloc, objects, &mut out)?;
+    tell_last(alloc, objects, book.namings(), &mut out)?;
+    tell_ends(alloc, objects, &mut out)?;
     Ok(out)
 }
 
+// What is told of a case.
+fn tell(alloc: Global, rows: &[&str]) -> Result<String, Broken> {
+    let mut book = Book::new(alloc, Sha1Hash);
+    let mut objects = Objects::new(alloc, &mut book, 64)?;
+    tell_in(alloc, &mut book, &mut objects, rows)
+}
+
 #[test]
-fn cases(rt: HostRuntime) -> Result<(), Fail> {
+fn cases(rt: HostRuntime) {
     for (rows, text) in CASES {
-        assert_eq!(rt; tell(rt.alloc(), rows)?.as_str(), *text);
+        same(&rt, tell(rt.alloc(), rows), text);
     }
+}
+
+#[test]
+fn laws() {
     objects_stay_known();
     versions_are_few();
     made_strings_are_held();
-    Ok(())
 }

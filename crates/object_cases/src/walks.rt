@@ -1,10 +1,10 @@
 // Walks over a version of 4,097 bytes, with names that another program gave, and what each asks for.
+use crate::telling::{Broken, add, add_number, digits_of_name, same};
 use block_names::{Hash160, NameFault, Pool, Sha1Hash};
 use bytes::Bytes;
 use cow_tree::{Lookup, Span, Walked, needed_strings_are_strings, walk};
 use pond_base::{Items, Name, Version};
 use std::alloc::Global;
-use std::test::Fail;
 use tree_format::{Root, is_root, write_inner, write_leaf, write_root};
 
 const BLOCK: u32 = 64;
@@ -70,14 +70,14 @@ impl<H: Hash160 + Drop> Lookup for Kept<H> {
 }
 
 // Puts a string under its name.
-fn put(pool: &mut Pool, string: Bytes) -> Result<Name, Fail> {
+fn put(pool: &mut Pool, string: Bytes) -> Result<Name, Broken> {
     let name = Sha1Hash.hash(string.as_slice());
     pool.put(name, string)?;
     Ok(name)
 }
 
 // The bytes of the version, of which the one at k is k modulo 251.
-fn content(alloc: Global) -> Result<Vec<u8>, Fail> {
+fn content(alloc: Global) -> Result<Vec<u8>, Broken> {
     let mut content = Vec::new(alloc);
     for place in 0..LENGTH {
         content.push((place % 251) as u8)?;
@@ -86,9 +86,9 @@ fn content(alloc: Global) -> Result<Vec<u8>, Fail> {
 }
 
 // Puts a leaf string where it is not to be lacking, and gives its name.
-fn put_leaf(alloc: Global, pool: &mut Pool, leaf: &[u8], lacks: bool) -> Result<Name, Fail> {
+fn put_leaf(alloc: Global, pool: &mut Pool, leaf: &[u8], lacks: bool) -> Result<Name, Broken> {
     if leaf.is_empty() || leaf.len() > 8192 {
-        return Err(Fail::new("no leaf"));
+        return Err(Broken::Unfit);
     }
     let string = write_leaf(alloc, leaf)?;
     if lacks {
@@ -98,7 +98,7 @@ fn put_leaf(alloc: Global, pool: &mut Pool, leaf: &[u8], lacks: bool) -> Result<
 }
 
 // Puts the leaf strings of the version, but for those at some places, and gives the names of all.
-fn put_leaves(alloc: Global, pool: &mut Pool, lacks: &[usize]) -> Result<Vec<Name>, Fail> {
+fn put_leaves(alloc: Global, pool: &mut Pool, lacks: &[usize]) -> Result<Vec<Name>, Broken> {
     let content = content(alloc)?;
     let mut names = Vec::new(alloc);
     for leaf in content.as_slice().chunks(BLOCK as usize) {
@@ -108,15 +108,15 @@ fn put_leaves(alloc: Global, pool: &mut Pool, lacks: &[usize]) -> Result<Vec<Nam
     Ok(names)
 }
 
-fn put_inner(alloc: Global, pool: &mut Pool, names: &[Name]) -> Result<Name, Fail> {
+fn put_inner(alloc: Global, pool: &mut Pool, names: &[Name]) -> Result<Name, Broken> {
     if names.is_empty() || names.len() > 64 {
-        return Err(Fail::new("no inner string"));
+        return Err(Broken::Unfit);
     }
     put(pool, write_inner(alloc, names)?)
 }
 
 // Puts the inner strings over names, and gives their names.
-fn put_above(alloc: Global, pool: &mut Pool, names: &[Name]) -> Result<Vec<Name>, Fail> {
+fn put_above(alloc: Global, pool: &mut Pool, names: &[Name]) -> Result<Vec<Name>, Broken> {
     let mut above = Vec::new(alloc);
     for some in names.chunks(64) {
         above.push(put_inner(alloc, pool, some)?)?;
@@ -124,9 +124,9 @@ fn put_above(alloc: Global, pool: &mut Pool, names: &[Name]) -> Result<Vec<Name>
     Ok(above)
 }
 
-fn put_root(alloc: Global, pool: &mut Pool, root: &Root) -> Result<Name, Fail> {
+fn put_root(alloc: Global, pool: &mut Pool, root: &Root) -> Result<Name, Broken> {
     if !is_root(root) {
-        return Err(Fail::new("no root"));
+        return Err(Broken::Unfit);
     }
     put(pool, write_root(alloc, root)?)
 }
@@ -145,7 +145,7 @@ fn empty_root() -> Root {
 }
 
 // Puts the root strings of version 0 and of the version, and gives the name of the version.
-fn put_roots(alloc: Global, pool: &mut Pool, top: Name) -> Result<Name, Fail> {
+fn put_roots(alloc: Global, pool: &mut Pool, top: Name) -> Result<Name, Broken> {
     let previous = put_root(alloc, pool, &empty_root())?;
     let root = Root {
         version: Version(1),
@@ -168,7 +168,7 @@ struct Names {
 }
 
 // Puts all strings of the version, but for its leaves at some places.
-fn put_version(alloc: Global, pool: &mut Pool, lacks: &[usize]) -> Result<Names, Fail> {
+fn put_version(alloc: Global, pool: &mut Pool, lacks: &[usize]) -> Result<Names, Broken> {
     let leaves = put_leaves(alloc, pool, lacks)?;
     let inner = put_above(alloc, pool, leaves.as_slice())?;
     let top = put_inner(alloc, pool, inner.as_slice())?;
@@ -181,154 +181,210 @@ fn put_version(alloc: Global, pool: &mut Pool, lacks: &[usize]) -> Result<Names,
     })
 }
 
-// A lookup that has the strings of the version, but for its leaves at some places, and their names.
-fn kept_version(alloc: Global, lacks: &[usize]) -> Result<(Kept<Sha1Hash>, Names), Fail> {
-    let mut pool = Pool::new(alloc);
-    let names = put_version(alloc, &mut pool, lacks)?;
-    let kept = Kept {
+fn kept_of(alloc: Global, pool: Pool) -> Kept<Sha1Hash> {
+    Kept {
         hash: Sha1Hash,
         pool,
         asked: Items::new(alloc),
-    };
-    Ok((kept, names))
+    }
 }
 
-// The names of the version, of its top, and of the first and the last inner string and leaf.
-const NAMES: &[&str] = &[
-    "b47357d4e7307fcc0cfb481612a9a3e6df011c2d",
-    "231d0fa2d1a0e39a5f295b901e139cef6affe576",
-    "59953ca1d16d8b522883d43e18853f3da05669ad",
-    "fc2b366bf31c5bc190f32a4603f8d1fba4a1068b",
-    "19940339f7099a8ec4fdba70aed371c97499b332",
-];
+// The names of the version, of its top, of the first inner string, and of the first and the last leaf.
+const NAMES: &str = "b47357d4e7307fcc0cfb481612a9a3e6df011c2d \
+                     231d0fa2d1a0e39a5f295b901e139cef6affe576 \
+                     59953ca1d16d8b522883d43e18853f3da05669ad \
+                     fc2b366bf31c5bc190f32a4603f8d1fba4a1068b \
+                     19940339f7099a8ec4fdba70aed371c97499b332 ";
 
-fn some_names(alloc: Global, names: &Names) -> Result<Vec<Name>, Fail> {
-    let (Some(inner), Some(first), Some(last)) = (
+fn told_names(alloc: Global, names: &[Name]) -> Result<String, Broken> {
+    let mut text = String::new(alloc);
+    for name in names {
+        add(&mut text, digits_of_name(alloc, *name))?;
+        text.push_str(" ")?;
+    }
+    Ok(text)
+}
+
+fn some_names(alloc: Global, names: &Names) -> Result<String, Broken> {
+    match (
         names.inner.first(),
         names.leaves.first(),
         names.leaves.last(),
-    ) else {
-        return Err(Fail::new("no name"));
-    };
-    let some = [names.version, names.top, *inner, *first, *last];
-    Ok(some.as_slice().to_vec(alloc)?)
+    ) {
+        (Some(inner), Some(first), Some(last)) => {
+            told_names(alloc, &[names.version, names.top, *inner, *first, *last])
+        }
+        _ => Err(Broken::Unfit),
+    }
 }
 
-fn digits_of(alloc: Global, name: Name) -> Result<String, Fail> {
-    Ok(hex::encode(alloc, name.bytes().as_slice())?)
+fn names_of(alloc: Global) -> Result<String, Broken> {
+    let mut pool = Pool::new(alloc);
+    let names = put_version(alloc, &mut pool, &[])?;
+    some_names(alloc, &names)
 }
 
 #[test]
-fn names_of_the_version(rt: HostRuntime) -> Result<(), Fail> {
-    let (_kept, names) = kept_version(rt.alloc(), &[])?;
-    let names = some_names(rt.alloc(), &names)?;
-    assert_eq!(rt; names.len(), NAMES.len());
-    for (name, digits) in names.as_slice().iter().zip(NAMES) {
-        assert_eq!(rt; digits_of(rt.alloc(), *name)?.as_str(), *digits);
+fn names_of_the_version(rt: HostRuntime) {
+    same(&rt, names_of(rt.alloc()), NAMES);
+}
+
+// Whether names are all those of the version in the order in which a walk needs them.
+fn are_needed(found: &[Name], names: &Names) -> bool {
+    let ([first, second], Some((last, others))) = (
+        names.inner.as_slice(),
+        names.leaves.split_last(),
+    ) else {
+        return false;
+    };
+    match found {
+        [version, top, inner, leaves @ .., other, leaf] => {
+            [*version, *top, *inner] == [names.version, names.top, *first]
+                && leaves == others
+                && [*other, *leaf] == [*second, *last]
+        }
+        _ => false,
     }
-    Ok(())
 }
 
-// The names of all strings of the version in the order in which a walk needs them.
-fn needed_names(alloc: Global, names: &Names) -> Result<Vec<Name>, Fail> {
-    let [first, second] = names.inner.as_slice() else {
-        return Err(Fail::new("no two inner strings"));
-    };
-    let Some((last, others)) = names.leaves.split_last() else {
-        return Err(Fail::new("no leaves"));
-    };
-    let mut needed = [names.version, names.top, *first].as_slice().to_vec(alloc)?;
-    needed.extend_from_slice(others)?;
-    needed.push(*second)?;
-    needed.push(*last)?;
-    Ok(needed)
-}
-
-// Whether bytes are those of the version from a place up to another.
-fn are_bytes(bytes: &[u8], from: usize, to: usize) -> bool {
+// The place behind bytes that are those of the version from a place on.
+fn end_of(bytes: &[u8], from: usize) -> Option<usize> {
     let mut place = from;
     for byte in bytes {
         if *byte != (place % 251) as u8 {
-            return false;
+            return None;
         }
         place = place.saturating_add(1);
     }
-    place == to
+    Some(place)
 }
 
-// The version that a walk comes to and its wanted bytes.
+fn whole_line(
+    alloc: Global,
+    version: Version,
+    bytes: &[u8],
+    from: usize,
+) -> Result<String, Broken> {
+    let mut text = String::new(alloc);
+    match end_of(bytes, from) {
+        Some(to) => add_number(alloc, &mut text, "bytes to ", to as u64)?,
+        None => text.push_str("other bytes")?,
+    }
+    add_number(alloc, &mut text, " of version ", version.0 as u64)?;
+    Ok(text)
+}
+
+fn missing_line(alloc: Global, name: Name) -> Result<String, Broken> {
+    let mut text = String::new(alloc);
+    text.push_str("missing ")?;
+    add(&mut text, digits_of_name(alloc, name))?;
+    Ok(text)
+}
+
+// What a walk comes to: up to where it has the bytes of the version from a place on, or the missing name.
 fn walked(
     alloc: Global,
     kept: &mut Kept<Sha1Hash>,
     name: Name,
     span: Span,
-) -> Result<(u32, Vec<u8>), Fail> {
+    from: usize,
+) -> Result<String, Broken> {
     match walk(alloc, name, span, kept)? {
-        Walked::Whole { root, bytes } => Ok((root.version.0, bytes)),
-        Walked::Missing(_) => Err(Fail::new("missing")),
+        Walked::Whole { root, bytes } => whole_line(alloc, root.version, bytes.as_slice(), from),
+        Walked::Missing(name) => missing_line(alloc, name),
     }
 }
 
-#[test]
-fn all_bytes(rt: HostRuntime) -> Result<(), Fail> {
-    let (mut kept, names) = kept_version(rt.alloc(), &[])?;
-    let (version, bytes) = walked(rt.alloc(), &mut kept, names.version, Span::All)?;
-    assert_eq!(rt; version, 1);
-    assert!(rt; are_bytes(bytes.as_slice(), 0, 4097));
-    let needed = needed_names(rt.alloc(), &names)?;
-    assert!(rt; kept.asked.as_slice() == needed.as_slice());
-    needed_strings_are_strings();
-    Ok(())
+// The same, and how many names were asked for.
+fn walked_and_asked(
+    alloc: Global,
+    kept: &mut Kept<Sha1Hash>,
+    name: Name,
+    span: Span,
+    from: usize,
+) -> Result<String, Broken> {
+    let mut text = walked(alloc, kept, name, span, from)?;
+    add_number(alloc, &mut text, " asked ", kept.asked.len() as u64)?;
+    Ok(text)
 }
 
-// An offset and a count, the bytes from the one place up to the other, and how many names are asked for.
-const PARTS: &[(u32, u32, usize, usize, usize)] = &[
-    (4095, 2, 4095, 4097, 6),
-    (4095, 1, 4095, 4096, 4),
-    (64, 64, 64, 128, 4),
-    (63, 66, 63, 129, 6),
-    (4096, u32::MAX, 4096, 4097, 4),
-    (100, 0, 100, 100, 1),
-    (4097, 5, 4097, 4097, 1),
-    (u32::MAX, u32::MAX, 4097, 4097, 1),
+// The same over the version, and whether it asks for all names in their order.
+fn all_walked(alloc: Global, kept: &mut Kept<Sha1Hash>, names: &Names) -> Result<String, Broken> {
+    let mut text = walked_and_asked(alloc, kept, names.version, Span::All, 0)?;
+    if are_needed(kept.asked.as_slice(), names) {
+        text.push_str(" in order")?;
+    }
+    Ok(text)
+}
+
+fn all_of(alloc: Global) -> Result<String, Broken> {
+    let mut pool = Pool::new(alloc);
+    let names = put_version(alloc, &mut pool, &[])?;
+    let mut kept = kept_of(alloc, pool);
+    all_walked(alloc, &mut kept, &names)
+}
+
+#[test]
+fn all_bytes(rt: HostRuntime) {
+    let text = "bytes to 4097 of version 1 asked 69 in order";
+    same(&rt, all_of(rt.alloc()), text);
+    needed_strings_are_strings();
+}
+
+// An offset and a count, the place of the first byte, and what is told.
+const PARTS: &[(u32, u32, usize, &str)] = &[
+    (4095, 2, 4095, "bytes to 4097 of version 1 asked 6"),
+    (4095, 1, 4095, "bytes to 4096 of version 1 asked 4"),
+    (64, 64, 64, "bytes to 128 of version 1 asked 4"),
+    (63, 66, 63, "bytes to 129 of version 1 asked 6"),
+    (4096, u32::MAX, 4096, "bytes to 4097 of version 1 asked 4"),
+    (100, 0, 100, "bytes to 100 of version 1 asked 1"),
+    (4097, 5, 4097, "bytes to 4097 of version 1 asked 1"),
+    (
+        u32::MAX,
+        u32::MAX,
+        4097,
+        "bytes to 4097 of version 1 asked 1",
+    ),
 ];
 
-// The bytes of a part, and how many names were asked for.
-fn part(alloc: Global, offset: u32, count: u32) -> Result<(Vec<u8>, usize), Fail> {
-    let (mut kept, names) = kept_version(alloc, &[])?;
-    let span = Span::Part { offset, count };
-    let (_version, bytes) = walked(alloc, &mut kept, names.version, span)?;
-    Ok((bytes, kept.asked.len()))
+// Puts all strings of the version, but for its leaves at some places, and gives its name.
+fn put_lacking(alloc: Global, pool: &mut Pool, lacks: &[usize]) -> Result<Name, Broken> {
+    let names = put_version(alloc, pool, lacks)?;
+    Ok(names.version)
+}
+
+// What is told of a walk over the version without some leaves.
+fn walked_lacking(
+    alloc: Global,
+    lacks: &[usize],
+    span: Span,
+    from: usize,
+) -> Result<String, Broken> {
+    let mut pool = Pool::new(alloc);
+    let version = put_lacking(alloc, &mut pool, lacks)?;
+    let mut kept = kept_of(alloc, pool);
+    walked_and_asked(alloc, &mut kept, version, span, from)
+}
+
+fn part(alloc: Global, offset: u32, count: u32, from: usize) -> Result<String, Broken> {
+    walked_lacking(alloc, &[], Span::Part { offset, count }, from)
 }
 
 #[test]
-fn parts_ask_for_what_they_meet(rt: HostRuntime) -> Result<(), Fail> {
-    for (offset, count, from, to, asked) in PARTS {
-        let (bytes, found) = part(rt.alloc(), *offset, *count)?;
-        assert!(rt;
-            are_bytes(bytes.as_slice(), *from, *to),
-            "at {offset} {count}"
-        );
-        assert_eq!(rt; found, *asked, "at {offset} {count}");
-    }
-    Ok(())
-}
-
-// The first missing name of a walk over the version without some leaves, and how many names were asked for.
-fn missing(alloc: Global, lacks: &[usize]) -> Result<(Name, usize), Fail> {
-    let (mut kept, names) = kept_version(alloc, lacks)?;
-    match walk(alloc, names.version, Span::All, &mut kept)? {
-        Walked::Missing(name) => Ok((name, kept.asked.len())),
-        Walked::Whole { root: _, bytes: _ } => Err(Fail::new("nothing is missing")),
+fn parts_ask_for_what_they_meet(rt: HostRuntime) {
+    for (offset, count, from, text) in PARTS {
+        same(&rt, part(rt.alloc(), *offset, *count, *from), text);
     }
 }
 
 #[test]
-fn the_first_missing_name_is_told(rt: HostRuntime) -> Result<(), Fail> {
-    let (name, asked) = missing(rt.alloc(), &[3, 10])?;
+fn the_first_missing_name_is_told(rt: HostRuntime) {
     // The name of the leaf at place 3.
-    let digits = "280d487ded79f6e67c2a22d69a8ee1b6e5d1111a";
-    assert_eq!(rt; digits_of(rt.alloc(), name)?.as_str(), digits);
-    assert_eq!(rt; asked, 7);
-    Ok(())
+    let text = "missing 280d487ded79f6e67c2a22d69a8ee1b6e5d1111a asked 7";
+    same(
+        &rt,
+        walked_lacking(rt.alloc(), &[3, 10], Span::All, 0),
+        text,
+    );
 }

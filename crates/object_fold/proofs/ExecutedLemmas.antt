@@ -173,7 +173,7 @@ module _ (h : List ℕ → List ℕ) (block : ℕ) (request : Request) (earlier 
 
   -- ---- the objects after it
 
-  pub seen_more : (new : ObjectsView) → SeesOneMore old.seen new.seen request → (r : Request) → is_seen new.seen r ≡ list_any (same_number r) (request ∷ earlier)
+  pub seen_more : (new : ObjectsView) → SeesOneMore old.seen new.seen request.client request.number → (r : Request) → is_seen new.seen r ≡ list_any (same_number r) (request ∷ earlier)
   seen_more new more r = more r ∙ ap (λ b. same_number r request || b) (after.seen r)
 
   module _ (new : ObjectsView) (e : Effect) (is : effect_after h block request earlier ≡ e) (none : with_effect request.label e made ≡ made) (trees : new.trees ≡ old.trees) (added : new.added ≡ old.added) (same_made : new.made ≡ old.made)
@@ -200,7 +200,7 @@ module _ (h : List ℕ → List ℕ) (block : ℕ) (request : Request) (earlier 
       after_none old Repeats (ap (λ b. cond b Repeats (effect_of_outcome (outcome h block request.update.clauses versions))) (sym (after.seen request) ∙ seen)) refl refl refl refl (seen_again seen)
 
   pub after_refusal : (new : ObjectsView) (refusal : Refusal) → is_seen old.seen request ≡ false → outcome h block request.update.clauses versions ≡ Err refusal
-      → new.trees ≡ old.trees → new.added ≡ old.added → new.made ≡ old.made → SeesOneMore old.seen new.seen request → AreAfter h block (request ∷ earlier) new
+      → new.trees ≡ old.trees → new.added ≡ old.added → new.made ≡ old.made → SeesOneMore old.seen new.seen request.client request.number → AreAfter h block (request ∷ earlier) new
   after_refusal new refusal first is trees added same_made seen = after_none new (Refuses refusal) (effect_first first (Err refusal) is) refl trees added same_made (seen_more new seen)
 
   module _ (new : ObjectsView) (content : List ℕ) (tree : TreeView) (changed : List NodeView) (is : effect_after h block request earlier ≡ Makes content) (stands : StandsFor h block tree content versions)

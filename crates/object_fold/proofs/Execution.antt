@@ -56,13 +56,13 @@ module _ (h : List ℕ → List ℕ) (old inside : ObjectsView) (view : inside �
       pub refused_effect : (block : ℕ) (earlier : List Request) → AreAfter h block earlier old → effect_after h block request earlier ≡ Refuses refusal
       refused_effect block earlier after = effect_first h block request earlier old after is_new (Err refusal) (refused block earlier after)
 
-      pub refused_after : (new : ObjectsView) → new.trees ≡ inside.trees → new.added ≡ inside.added → new.made ≡ inside.made → SeesOneMore inside.seen new.seen request
+      pub refused_after : (new : ObjectsView) → new.trees ≡ inside.trees → new.added ≡ inside.added → new.made ≡ inside.made → SeesOneMore inside.seen new.seen request.client request.number
           → (block : ℕ) (earlier : List Request) → AreAfter h block earlier old → AreAfter h block (request ∷ earlier) new
       refused_after new trees added made more block earlier after =
           after_refusal h block request earlier old after new refusal is_new (refused block earlier after)
-          (trees ∙ ap (λ (o : ObjectsView). o.trees) view) (added ∙ ap (λ (o : ObjectsView). o.added) view) (made ∙ ap (λ (o : ObjectsView). o.made) view) (subst (λ (o : ObjectsView). SeesOneMore o.seen new.seen request) view more)
+          (trees ∙ ap (λ (o : ObjectsView). o.trees) view) (added ∙ ap (λ (o : ObjectsView). o.added) view) (made ∙ ap (λ (o : ObjectsView). o.made) view) (subst (λ (o : ObjectsView). SeesOneMore o.seen new.seen request.client request.number) view more)
 
-      pub refused_known : (held : Held) (new : ObjectsView) → new.trees ≡ inside.trees → new.added ≡ inside.added → new.made ≡ inside.made → SeesOneMore inside.seen new.seen request → AreKnown h held old → AreKnown h held new
+      pub refused_known : (held : Held) (new : ObjectsView) → new.trees ≡ inside.trees → new.added ≡ inside.added → new.made ≡ inside.made → SeesOneMore inside.seen new.seen request.client request.number → AreKnown h held old → AreKnown h held new
       refused_known held new trees added made more known = record {
         block = known.block;
         requests = request ∷ known.requests;

@@ -5,7 +5,6 @@ use Rattle.std.specs.List.{list_any}
 use Rattle.std.specs.BTreeMap.{is_at}
 use Rattle.std.specs.declared.cmp.Ordering.{Ordering}
 use Rattle.pond_base.specs.declared.numbers.ClientId.{ClientId}
-use Rattle.guarded_update.specs.declared.request.Request.{Request}
 use Rattle.object_fold.specs.Executed.{is_seen, SeesOneMore}
 
 abbrev Pair : Type 0
@@ -26,14 +25,14 @@ or_first true b = refl
 or_first false b = refl
 
 -- a pair that is put among others is seen, and the others are as before
-pub put_pair : (compare : Pair → Pair → Ordering) (old new : List Pair) (request : Request)
+pub put_pair : (compare : Pair → Pair → Ordering) (old new : List Pair) (client : ClientId) (number : ℕ)
     → ((p q : Pair) → is_at (compare p) q ≡ (p.0.0 == q.0.0 && p.1 == q.1))
-    → ((q : Pair) → list_any (is_at (compare q)) new ≡ cond (is_at (compare (request.client, request.number)) q) true (list_any (is_at (compare q)) old))
-    → SeesOneMore old new request
-put_pair compare old new request ties put other =
+    → ((q : Pair) → list_any (is_at (compare q)) new ≡ cond (is_at (compare (client, number)) q) true (list_any (is_at (compare q)) old))
+    → SeesOneMore old new client number
+put_pair compare old new client number ties put other =
     let seen = any_same (is_at (compare (other.client, other.number))) (λ (p : Pair). other.client.0 == p.0.0 && other.number == p.1) (ties (other.client, other.number)) in
     sym (seen new) ∙ put (other.client, other.number)
-    ∙ ap (cond (is_at (compare (request.client, request.number)) (other.client, other.number)) true) (seen old)
-    ∙ ap (λ b. cond b true (is_seen old other)) (ties (request.client, request.number) (other.client, other.number)
-    ∙ ap (λ b. b && request.number == other.number) (eq_turned request.client.0 other.client.0) ∙ ap (λ b. other.client.0 == request.client.0 && b) (eq_turned request.number other.number))
-    ∙ or_first (other.client.0 == request.client.0 && other.number == request.number) (is_seen old other)
+    ∙ ap (cond (is_at (compare (client, number)) (other.client, other.number)) true) (seen old)
+    ∙ ap (λ b. cond b true (is_seen old other)) (ties (client, number) (other.client, other.number)
+    ∙ ap (λ b. b && number == other.number) (eq_turned client.0 other.client.0) ∙ ap (λ b. other.client.0 == client.0 && b) (eq_turned number other.number))
+    ∙ or_first (other.client.0 == client.0 && other.number == number) (is_seen old other)

@@ -44,14 +44,14 @@ pub record AreKnown (h : List ℕ → List ℕ) (held : Held) (objects : Objects
   pub known : (label : List ℕ) → All (IsTreeIn h held) (trees_in objects.trees label)
 
 -- a request of this client and number stands beside the others now
-abbrev pub SeesOneMore : List (ClientId × ℕ) → List (ClientId × ℕ) → Request → Type 0
-SeesOneMore old new request = (other : Request) → is_seen new other ≡ (same_number other request || is_seen old other)
+abbrev pub SeesOneMore : List (ClientId × ℕ) → List (ClientId × ℕ) → ClientId → ℕ → Type 0
+SeesOneMore old new client number = (other : Request) → is_seen new other ≡ (other.client.0 == client.0 && other.number == number || is_seen old other)
 
 -- the tree of the version that a request made is kept, with what is new of some changed nodes
 pub record KeepsTree (old new : ObjectsView) (request : Request) (tree : TreeView) (changed : List NodeView) : Type 0 where
   pub trees : HasOneMore old.trees new.trees request.label tree
   pub added : AddsUnder old.added new.added request.label changed
-  pub seen : SeesOneMore old.seen new.seen request
+  pub seen : SeesOneMore old.seen new.seen request.client request.number
   pub made : new.made ≡ old.made ++ (request.label, tree.root.version) ∷ []
 
 -- whatever requests were executed, a fact holds of them

@@ -100,7 +100,7 @@ impl Objects {
         let actions = match decide(self.trees.newest(&request.label), clauses) {
             Ok(actions) => actions,
             Err(refused) => {
-                self.seen.add(request)?;
+                self.seen.add(request.client, request.number)?;
                 return Ok(told(refused));
             }
         };
@@ -159,7 +159,7 @@ impl Objects {
         self.trees.add(&request.label, tree)?;
         self.added.add(&request.label, changed)?;
         self.made.push((request.label, version))?;
-        self.seen.add(request)?;
+        self.seen.add(request.client, request.number)?;
         Ok(())
     }
 }

@@ -38,10 +38,10 @@ impl Seen {
         self.pairs.contains(&(request.client, request.number))
     }
 
-    pub(crate) fn add(&mut self, request: &Request) -> Result<(), OutOfMemory>
-        ensures { OnOk result (SeesOneMore self.old self.new request.now) }
+    pub(crate) fn add(&mut self, client: ClientId, number: u32) -> Result<(), OutOfMemory>
+        ensures { OnOk result (SeesOneMore self.old self.new client number) }
     {
-        self.pairs.insert((request.client, request.number))?;
+        self.pairs.insert((client, number))?;
         Ok(())
     }
 }

@@ -18,7 +18,8 @@ use Rattle.ring_model.proofs.History.{Each-weaker}
 use Rattle.ring_model.proofs.Stays.{executed_grows}
 use Rattle.message_model.specs.Meaning.{who}
 use Rattle.message_model.specs.Reading.{IsRingOf, asked_in}
-use Rattle.ring_member.specs.Members.{IsMember, AreToMembers, sent_to_members}
+use Rattle.ring_member.specs.Members.{sent_to_members}
+use Rattle.message_model.specs.Members.{IsMember, AreToMembers}
 use Rattle.ring_node.specs.Naming.{Namings, IsSeat, strings_executed, strings_for}
 use Rattle.pond_node.specs.declared.node.Node.{Node}
 use Rattle.pond_node.specs.Answers.{AreSeated, longer}

@@ -16,6 +16,7 @@ use block_names::{Book, Hash160, NameFault};
 use bytes::Bytes;
 use guarded_update::Request;
 use object_fold::Outcome;
+use pond_base::limits::MOST_CLIENTS;
 use pond_base::{ClientId, Label, Name, OutOfMemory, Party, Version};
 use ring_message::{Message, Out, write};
 use std::alloc::Global;
@@ -55,7 +56,7 @@ pub(crate) fn tell<H: Hash160 + Drop>(
     outcome: &Outcome,
     out: &mut Vec<Out>,
 ) -> Result<(), NameFault>
-    requires clients { clients ≤ 16 }
+    requires clients { clients ≤ MOST_CLIENTS }
     requires outcome { OutcomeFits outcome.now }
     ensures sent { OnOk result ((g : Ring) (i : ℕ) → g.clients ≡ clients → map (packet i) out.new.items ≡ map (packet i) out.old.items ++ hearts g i (mark_of (object_name H.naming label.now) outcome.now)) }
     ensures seats { OnOk result (AreSeated out.old.items → AreSeated out.new.items) }
@@ -83,7 +84,7 @@ fn tell_made(
     name: Name,
     out: &mut Vec<Out>,
 ) -> Result<(), OutOfMemory>
-    requires clients { clients ≤ 16 }
+    requires clients { clients ≤ MOST_CLIENTS }
     requires version { 1 ≤ version.0 }
     ensures sent { OnOk result ((g : Ring) (i : ℕ) → g.clients ≡ clients → map (packet i) out.new.items ≡ map (packet i) out.old.items ++ to_clients g (AMember i) (AHeart object version.0 name)) }
     ensures seats { OnOk result (AreSeated out.old.items → AreSeated out.new.items) }
@@ -100,7 +101,7 @@ fn tell_made(
 
 // Adds bytes to every client, rising.
 fn send_to_clients(clients: u8, bytes: &Bytes, out: &mut Vec<Out>) -> Result<(), OutOfMemory>
-    requires clients { clients ≤ 16 }
+    requires clients { clients ≤ MOST_CLIENTS }
     ensures sent { OnOk result ((g : Ring) (i : ℕ) → g.clients ≡ clients → map (packet i) out.new.items ≡ map (packet i) out.old.items ++ to_clients g (AMember i) (meaning bytes.now)) }
     ensures seats { OnOk result (AreSeated out.old.items → AreSeated out.new.items) }
 {

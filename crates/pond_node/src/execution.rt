@@ -22,6 +22,7 @@ use block_names::{Book, Hash160, NameFault};
 use bytes::Bytes;
 use guarded_update::{Request, RequestFault, read};
 use object_fold::{Objects, Outcome};
+use pond_base::limits::MOST_CLIENTS;
 use pond_base::{Items, OutOfMemory};
 use ring_message::Out;
 use std::alloc::Global;
@@ -38,7 +39,7 @@ pub(crate) fn execute<H: Hash160 + Drop>(
     outcomes: &mut Items<Outcome>,
     out: &mut Vec<Out>,
 ) -> Result<(), NameFault>
-    requires clients { clients ≤ 16 }
+    requires clients { clients ≤ MOST_CLIENTS }
     requires known { AreKnown H.naming book.old.held objects.old }
     requires room { length objects.old.made + 1 < 2 ^ 32 }
     ensures done { OnOk result (ForBefore H.naming objects.old outcomes.old string.now (λ block before. AreOf H.naming block (before ++ string.now ∷ []) objects.new outcomes.new)) }

@@ -1,5 +1,6 @@
 // What a node is made of.
 ghost use Rattle.std.specs.Prelude.{◌≤◌};
+ghost use Rattle.pond_base.specs.declared.limits.TheConstants.{MOST_BLOCK, MOST_CLIENTS};
 
 use object_fold::{Objects, Outcome};
 use pond_base::Items;
@@ -17,6 +18,6 @@ pub struct Node {
     pub(crate) member: Member,
     pub(crate) objects: Objects,
     pub(crate) outcomes: Items<Outcome>,
-    ghost few_clients: { clients ≤ 16 },
-    ghost short_block: { block ≤ 8192 },
+    ghost few_clients: { clients ≤ MOST_CLIENTS },
+    ghost short_block: { block ≤ MOST_BLOCK },
 }

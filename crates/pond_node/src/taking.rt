@@ -1,23 +1,19 @@
 // What a node does with bytes from a party.
-ghost use Rattle.std.specs.Prelude.{◌≡◌, ◌≤◌, ◌∷◌, [], ℕ, List, map, length, Contains, IfOk, IfErr, OnOk};
-ghost use Rattle.std.specs.List.{AllByRecursion};
+ghost use Rattle.std.specs.Prelude.{◌≡◌, ◌≤◌, [], Contains, IfOk, IfErr, OnOk};
 ghost use Rattle.block_names.specs.Growth.{keep_all, Grew, IsClashIn};
 ghost use Rattle.block_names.specs.Clashes.{AreHeld};
 ghost use Rattle.object_model.specs.Trees.{version_strings};
-ghost use Rattle.cow_tree.specs.Laws.{Keeps};
-ghost use Rattle.ring_model.specs.Messages.{Ring, Letter};
-ghost use Rattle.ring_model.specs.Member.{causes};
-ghost use Rattle.ring_model.specs.World.{IsParty};
-ghost use Rattle.message_model.specs.Meaning.{who, letter, packet};
+ghost use Rattle.ring_model.specs.Messages.{Ring};
 ghost use Rattle.message_model.specs.Reading.{IsRingOf};
 ghost use Rattle.fold_model.specs.Rings.{FoldsAs};
-ghost use Rattle.ring_node.specs.Naming.{Namings, strings_for, IsSeat};
+ghost use Rattle.ring_node.specs.Naming.{Namings};
 ghost use Rattle.pond_node.specs.Standing.{NodeStands, IsKnown};
 
 use crate::Node;
 use block_names::{Book, Hash160, NameFault};
 use bytes::Bytes;
 use object_fold::Objects;
+use pond_base::limits::{LEAST_BLOCK, MOST_BLOCK, MOST_CLIENTS, MOST_FAULTY, MOST_SLOTS};
 use pond_base::{Items, MemberId, Party};
 use ring_member::Member;
 use ring_message::Out;
@@ -35,11 +31,11 @@ impl Node {
         clients: u8,
         block: u32,
     ) -> Result<Node, NameFault>
-        requires faults { f ≤ 3 }
-        requires clients { clients ≤ 16 }
-        requires least { 64 ≤ block }
-        requires most { block ≤ 8192 }
-        ensures stands { IfOk result (λ node. (g : Ring) (namings : Namings) → IsRingOf H.naming g → g.f ≡ f → g.clients ≡ clients → g.slots ≡ 65536 → FoldsAs H.naming block g namings
+        requires faults { f ≤ MOST_FAULTY }
+        requires clients { clients ≤ MOST_CLIENTS }
+        requires least { LEAST_BLOCK ≤ block }
+        requires most { block ≤ MOST_BLOCK }
+        ensures stands { IfOk result (λ node. (g : Ring) (namings : Namings) → IsRingOf H.naming g → g.f ≡ f → g.clients ≡ clients → g.slots ≡ MOST_SLOTS → FoldsAs H.naming block g namings
             → NodeStands node g namings id.0 []) }
         ensures known { IfOk result (IsKnown H.naming book.new.held) }
         ensures held { OnOk result (book.new.held ≡ keep_all H.naming (version_strings H.naming block [] []) book.old.held) }
@@ -60,43 +56,6 @@ impl Node {
             outcomes: Items::new(alloc),
         })
     }
-
-    /// Takes bytes from a party, and answers all that the node owes for them, in order: PrePrepares if
-    /// it is member 0, Prepares and Commits, each to every member, and then for each slot that it newly
-    /// executes the reply to the client of its request and, where a version was made, that version to
-    /// every client. After a fault the node is spent.
-    pub fn take<H: Hash160 + Drop>(
-        &mut self,
-        book: &mut Book<H>,
-        from: Party,
-        bytes: &Bytes,
-    ) -> Result<Vec<Out>, NameFault>
-        requires known { IsKnown H.naming book.old.held self.old }
-        ensures stands { OnOk result ((g : Ring) (namings : Namings) (i : ℕ) (got : List Letter) → IsRingOf H.naming g → IsParty g (who from) → NodeStands self.old g namings i got
-            → NodeStands self.new g namings i (letter from bytes.now ∷ got)) }
-        ensures out { IfOk result (λ out. (g : Ring) (namings : Namings) (i : ℕ) (got : List Letter) → IsRingOf H.naming g → IsParty g (who from) → NodeStands self.old g namings i got
-            → map (packet i) out.items ≡ causes g i got (letter from bytes.now ∷ got)) }
-        ensures seats { IfOk result (λ out. AllByRecursion (λ o. IsSeat (who o.to)) out.items) }
-        ensures known { OnOk result (IsKnown H.naming book.new.held self.new) }
-        ensures keeps { Keeps book.old.held book.new.held }
-        ensures held { OnOk result ((g : Ring) (namings : Namings) (i : ℕ) (got : List Letter) → IsRingOf H.naming g → IsParty g (who from) → NodeStands self.old g namings i got
-            → book.new.held ≡ keep_all H.naming (strings_for g namings got (letter from bytes.now)) book.old.held) }
-        ensures all { OnOk result ((g : Ring) (namings : Namings) (i : ℕ) (got : List Letter) → IsRingOf H.naming g → IsParty g (who from) → NodeStands self.old g namings i got
-            → AreHeld H.naming book.new.held (strings_for g namings got (letter from bytes.now))) }
-        ensures grew { (g : Ring) (namings : Namings) (i : ℕ) (got : List Letter) → IsRingOf H.naming g → IsParty g (who from) → NodeStands self.old g namings i got
-            → Grew H.naming book.old.held (Contains (strings_for g namings got (letter from bytes.now))) book.new.held }
-        ensures fault { IfErr result (λ fault. (g : Ring) (namings : Namings) (i : ℕ) (got : List Letter) → IsRingOf H.naming g → IsParty g (who from) → NodeStands self.old g namings i got
-            → IsClashIn H.naming book.new.held (Contains (strings_for g namings got (letter from bytes.now))) fault) }
-    {
-        let mut out = match self.member.take(book, from, bytes) {
-            Ok(out) => out,
-            Err(fault) => return Err(fault),
-        };
-        match self.execute_new(book, &mut out) {
-            Ok(()) => Ok(out),
-            Err(fault) => Err(fault),
-        }
-    }
 }
 
 impl ring_node::Node for Node {
@@ -107,13 +66,24 @@ impl ring_node::Node for Node {
 
     ghost knows = { IsKnown };
 
+    /// Takes bytes from a party, and answers all that the node owes for them, in order: PrePrepares if
+    /// it is member 0, Prepares and Commits, each to every member, and then for each slot that it newly
+    /// executes the reply to the client of its request and, where a version was made, that version to
+    /// every client. After a fault the node is spent.
     fn take<H: Hash160 + Drop>(
         &mut self,
         book: &mut Book<H>,
         from: Party,
         bytes: &Bytes,
     ) -> Result<Vec<Out>, NameFault> {
-        self.take(book, from, bytes)
+        let mut out = match self.member.take(book, from, bytes) {
+            Ok(out) => out,
+            Err(fault) => return Err(fault),
+        };
+        match self.execute_new(book, &mut out) {
+            Ok(()) => Ok(out),
+            Err(fault) => Err(fault),
+        }
     }
 
     fn executed(&self) -> u32 {

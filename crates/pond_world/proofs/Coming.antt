@@ -56,5 +56,5 @@ events_may_come h g events (Resubmit c n) ring small legal may =
         omega (arith, number, may.1),
       ),
     )
-events_may_come h g events (Deliver p q k) ring small legal may = (may.0, (may.1, may.2))
+events_may_come h g events (Deliver p q k) ring small legal may = (may, may)
 events_may_come h g events (Forge i q bytes) ring small legal may = ((may.1, may.2), (may.0, may.1, may.2))

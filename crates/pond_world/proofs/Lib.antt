@@ -2,3 +2,5 @@ pub mod Made
 pub mod Flags
 pub mod Sites
 pub mod Coming
+pub mod Elements
+pub mod Labels

@@ -1,5 +1,5 @@
 -- Sites after their calls.
-use Rattle.std.proofs.Common.{◌≡◌, ℕ, List, get_or, refl, subst}
+use Rattle.std.proofs.Common.{◌≡◌, ℕ, List, get_or, refl, subst, Bool, true, false, Result, Ok, Err, OnOk, OnErr, sym, ◌∙◌}
 use Rattle.block_names.specs.Held.{Held}
 use Rattle.block_names.specs.Faults.{step_fault}
 use Rattle.block_names.specs.Growth.{IsClashIn}
@@ -36,3 +36,8 @@ among_back h held Of Memory clash = tt
 -- and is of the same strings
 pub named_among : (h : List ℕ → List ℕ) (held : Held) (Of : List ℕ → Type 0) (fault : NameFault) (stepped : StepFault) → stepped ≡ step_fault fault → IsStepClashAmong h held Of stepped → IsClashAmong h held Of fault
 named_among h held Of fault stepped is clash = among_back h held Of fault (subst (IsStepClashAmong h held Of) is clash)
+
+-- a world that has not ended at the end had not ended before, where it ends at an error alone
+pub still_going : {X E : Type 0} (result : Result X E) (new old : Bool) → OnOk result (new ≡ old) → OnErr result (new ≡ true) → new ≡ false → old ≡ false
+still_going (Ok x) new old same ends e = sym same ∙ e
+still_going (Err x) new old same ends e = absurd (cc (ends, e))

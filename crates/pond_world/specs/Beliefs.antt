@@ -1,5 +1,8 @@
 -- What a client of a ring whose members fold what they execute may rely on.
 use Rattle.std.specs.Prelude.{◌≡◌, ℕ, List, Some}
+use Rattle.block_names.specs.Held.{Held}
+use Rattle.block_names.specs.Growth.{Holds}
+use Rattle.tree_format.specs.Strings.{label_string}
 use Rattle.guarded_update.specs.declared.setup.Setup.{Setup}
 use Rattle.object_model.specs.Trees.{object_name, version_name}
 use Rattle.ring_model.specs.Messages.{Ring, Client}
@@ -7,7 +10,7 @@ use Rattle.ring_model.specs.World.{Event, world, chosen}
 use Rattle.ring_model.specs.Belief.{believed, replied, beating, sealing, heart_of}
 use Rattle.fold_model.specs.Folds.{Manifest, namings_by}
 use Rattle.fold_model.specs.Laws.{MakesVersion, IsAnswered}
-use Rattle.belief_model.specs.Laws.{LabelsApartWith, newest_mark}
+use Rattle.fold_model.specs.LabelLaws.{newest_mark}
 use Rattle.ring_world.specs.declared.state.World.{World}
 use Rattle.ring_world.specs.Worlds.{WorldStands}
 use Rattle.pond_node.specs.declared.node.Node.{Node}
@@ -29,9 +32,9 @@ abbrev pub RepliesAreOutcomes : (List ℕ → List ℕ) → ℕ → Ring → Lis
 RepliesAreOutcomes h block g events client = (number : ℕ) (outcome : List ℕ) → believed g (replied number) ((world g events).got (Client client)) ≡ Some outcome
     → IsAnswered h block (chosen g (world g events)) client number outcome
 
--- its heart of each label is that of the last version, and none where only the empty one is there, unless two labels have one name
-abbrev pub HoldsTheLast : (List ℕ → List ℕ) → ℕ → Ring → List Event → ℕ → Type 0
-HoldsTheLast h block g events client = (label : List ℕ) → LabelsApartWith h label (chosen g (world g events))
+-- its heart of each label, whose string is held, is that of the last version, and none where only the empty one is there
+abbrev pub HoldsTheLast : (List ℕ → List ℕ) → Held → ℕ → Ring → List Event → ℕ → Type 0
+HoldsTheLast h held block g events client = (label : List ℕ) → Holds h held (label_string label)
     → heart_of g (object_name h label) ((world g events).got (Client client)) ≡ newest_mark h block label (chosen g (world g events))
 
 -- whatever setup a world's ring is that of, and whatever events the world stands for, a fact holds of them

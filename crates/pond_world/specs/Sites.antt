@@ -14,10 +14,9 @@ pub record SiteView : Type 0 where
   pub held : Held
   pub world : World Node
 
--- each site: its book holds all that its world named, and no call has failed
-pub record IsSite (h : List ℕ → List ℕ) (site : SiteView) : Type 0 where
-  pub known : IsKnown node.IsKnown h site.held site.world
-  pub going : site.world.ended ≡ false
+-- each site: unless its world has ended, its book holds all that the world named
+abbrev pub IsSite : (List ℕ → List ℕ) → SiteView → Type 0
+IsSite h site = site.world.ended ≡ false → IsKnown node.IsKnown h site.held site.world
 
 -- where some strings of a kind were named beside those that were held, a fault is a clash of a string of the kind with one that is held then
 abbrev pub IsClashAfter : (List ℕ → List ℕ) → Held → (List ℕ → Type 0) → NameFault → Type 0

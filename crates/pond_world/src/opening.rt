@@ -8,6 +8,7 @@ ghost use Rattle.fold_model.specs.Folds.{Manifest, namings_by};
 ghost use Rattle.pond_node.specs.declared.node.Node.{Node};
 ghost use Rattle.pond_node.specs.Standing as node;
 ghost use Rattle.pond_node.specs.Standing.{NodeStands};
+ghost use Rattle.ring_world.specs.Skipping.{skips, PassNothing};
 ghost use Rattle.ring_world.specs.Worlds.{WorldStands, IsKnown};
 ghost use Rattle.pond_world.specs.Setups.{IsSetup, is_among, ring_by, RingIsSound};
 
@@ -34,6 +35,7 @@ pub fn open<H: Hash160 + Drop>(
 ) -> Result<World<Node>, NameFault>
     requires { IsSetup setup.now }
     ensures stands { IfOk result (λ world. (manifest : Manifest) → WorldStands NodeStands (ring_by H.naming setup.now manifest) (namings_by H.naming setup.now.block) world []) }
+    ensures skips { IfOk result (λ world. PassNothing (skips world)) }
     ensures known { IfOk result (IsKnown node.IsKnown H.naming book.new.held) }
     ensures held { OnOk result (book.new.held ≡ keep_all H.naming (version_strings H.naming setup.now.block [] []) book.old.held) }
     ensures all { OnOk result (AreHeld H.naming book.new.held (version_strings H.naming setup.now.block [] [])) }

@@ -1,15 +1,16 @@
 // A world with its book of names.
-ghost use Rattle.std.specs.Prelude.{◌≡◌, ◌≢◌, ◌==◌, ◌<◌, ℕ, false, List, [], ◌∷◌, ◌++◌, filter, length, Contains, IfOk, IfErr, OnOk};
+ghost use Rattle.std.specs.Prelude.{◌≡◌, ◌==◌, ◌<◌, ◌&&◌, ◌||◌, not, ℕ, true, false, List, [], ◌∷◌, ◌++◌, filter, length, Contains, IfOk, IfErr, OnOk, OnErr};
 ghost use Rattle.std.specs.FinMap as map;
-ghost use Rattle.block_names.specs.Faults.{step_fault};
-ghost use Rattle.block_names.specs.Growth.{keep_all, Grew};
+ghost use Rattle.block_names.specs.Growth.{keep_all, Grew, IsClashIn};
 ghost use Rattle.block_names.specs.Clashes.{AreHeld, NoneClash, IsClashAmong};
-ghost use Rattle.block_names.specs.declared.fault.StepFault.TheVariants.{Ended};
+ghost use Rattle.cow_tree.specs.Laws.{Keeps};
 ghost use Rattle.object_model.specs.Trees.{version_strings};
-ghost use Rattle.ring_model.specs.Messages.{Ring, Client as by};
+ghost use Rattle.ring_model.specs.Member.{executed};
+ghost use Rattle.ring_model.specs.Messages.{Ring, FewFaulty, Party as Who, Member as member, Client as by, same_party};
 ghost use Rattle.ring_model.specs.World as model;
-ghost use Rattle.ring_model.specs.World.{world};
-ghost use Rattle.ring_model.specs.Laws.{AllDelivered};
+ghost use Rattle.ring_model.specs.World.{world, chosen};
+ghost use Rattle.ring_model.specs.Laws.{AllDelivered, IsCorrect, IsPrefix, NoClash};
+ghost use Rattle.message_model.specs.Meaning.{who};
 ghost use Rattle.client_core.specs.Clients.{ClientStands};
 ghost use Rattle.fold_model.specs.Folds.{Manifest, namings_by};
 ghost use Rattle.pond_node.specs.Standing as node;
@@ -18,27 +19,29 @@ ghost use Rattle.ring_node.specs.Naming.{Namings};
 ghost use Rattle.ring_world.specs.Beliefs.{AreAnswered};
 ghost use Rattle.ring_world.specs.Deliveries.{settled, named_along, IsNamedIn};
 ghost use Rattle.ring_world.specs.Settles.{Settles};
-ghost use Rattle.ring_world.specs.Skipping.{is_skipped};
-ghost use Rattle.ring_world.specs.Steps.{IsStep, said_of};
+ghost use Rattle.ring_mail.specs.Places.{Place};
+ghost use Rattle.ring_mail.specs.Seats.{IsSeat};
+ghost use Rattle.ring_mail.specs.Skips.{is_skipped};
+ghost use Rattle.ring_world.specs.Skipping.{skips, stands_at, PassNothing};
+ghost use Rattle.ring_world.specs.Steps.{IsStep, Ends, IsStepClash, IsStepClashAmong, said_of};
 ghost use Rattle.ring_world.specs.Worlds.{WorldStands, IsKnown, ForEvents, ForStep, event_of, strings_of};
 ghost use Rattle.pond_world.specs.Beliefs.{ForSetups, HeartsAreVersions, SealsAreManifests, RepliesAreOutcomes, HoldsTheLast};
 ghost use Rattle.pond_world.specs.Setups.{IsSetup, ring_by};
 ghost use Rattle.pond_world.specs.Sites.{IsClashAfter, WorldsStayKnown};
 
 use crate::opening::{open, ring_is_sound};
-use belief_model::last_is_told;
 use block_names::{Book, Hash160, NameFault, StepFault};
 use client_core::Client;
-use fold_model::{heart_is_version, reply_is_outcome, seal_is_manifest};
+use fold_model::{heart_is_version, last_is_told, reply_is_outcome, seal_is_manifest};
 use guarded_update::Setup;
-use pond_base::{ClientId, Name};
+use pond_base::{ClientId, Name, OutOfMemory, Party};
 use pond_node::Node;
-use ring_world::{Event, Said, Skips, World};
+use ring_world::{Event, Said, World};
 use std::alloc::Global;
 use std::marker::Model;
 
-/// A world of members with their objects, and the book of all strings that were named. A call that
-/// fails ends the site.
+/// A world of members with their objects, and the book of all strings that were named: unless the world
+/// has ended, the book holds all that the world named.
 #[derive(Drop)]
 pub struct Site<H: Hash160 + Drop> {
     book: Book<H>,
@@ -66,6 +69,7 @@ impl<H: Hash160 + Drop> Site<H> {
     pub fn open(alloc: Global, hash: H, setup: &Setup) -> Result<Site<H>, NameFault>
         requires { IsSetup setup.now }
         ensures stands { IfOk result (λ site. (manifest : Manifest) → WorldStands NodeStands (ring_by H.naming setup.now manifest) (namings_by H.naming setup.now.block) site.world []) }
+        ensures skips { IfOk result (λ site. PassNothing (skips site.world)) }
         ensures held { IfOk result (λ site. site.held ≡ keep_all H.naming (version_strings H.naming setup.now.block [] []) map.empty) }
         ensures all { IfOk result (λ site. AreHeld H.naming site.held (version_strings H.naming setup.now.block [] [])) }
         ensures apart { OnOk result (NoneClash H.naming map.empty (Contains (version_strings H.naming setup.now.block [] []))) }
@@ -80,100 +84,142 @@ impl<H: Hash160 + Drop> Site<H> {
         }
     }
 
-    /// The site after the next event, and what that did. The caller keeps the list of events legal.
-    pub fn step(self, event: Event) -> Result<(Site<H>, Said), NameFault>
-        requires { IsStep self.world event }
-        ensures stands { IfOk result (λ done. ForStep NodeStands H.naming self.world event (λ g namings events. WorldStands NodeStands g namings done.0.world (event_of g (world g events) event ∷ events))) }
-        ensures said { IfOk result (λ done. ForStep NodeStands H.naming self.world event (λ g namings events. done.1 ≡ said_of g (world g events) (event_of g (world g events) event))) }
-        ensures held { IfOk result (λ done. ForStep NodeStands H.naming self.world event (λ g namings events. done.0.held ≡ keep_all H.naming (strings_of g namings (world g events) event) self.held)) }
-        ensures all { IfOk result (λ done. ForStep NodeStands H.naming self.world event (λ g namings events. AreHeld H.naming done.0.held (strings_of g namings (world g events) event))) }
-        ensures apart { OnOk result (ForStep NodeStands H.naming self.world event (λ g namings events. NoneClash H.naming self.held (Contains (strings_of g namings (world g events) event)))) }
-        ensures grew { IfOk result (λ done. ForStep NodeStands H.naming self.world event (λ g namings events. Grew H.naming self.held (Contains (strings_of g namings (world g events) event)) done.0.held)) }
-        ensures fault { IfErr result (λ fault. ForStep NodeStands H.naming self.world event (λ g namings events. IsClashAfter H.naming self.held (Contains (strings_of g namings (world g events) event)) fault)) }
-        ensures clash { IfErr result (λ fault. ForStep NodeStands H.naming self.world event (λ g namings events. IsClashAmong H.naming self.held (Contains (strings_of g namings (world g events) event)) fault)) }
+    /// Does the next event. The caller keeps the list of events legal: a forger is faulty, and no more
+    /// requests are submitted than there are slots. `Ended` is answered exactly where an earlier call
+    /// answered another fault, and then nothing changes; after any other fault the world has ended.
+    /// `Clash` is answered only where two different strings of one name are among those that the book held
+    /// and those that the event names, and where two are, `Ok` is not.
+    pub fn step(&mut self, event: Event) -> Result<Said, StepFault>
+        requires { IsStep self.old.world event }
+        ensures stands { OnOk result (ForStep NodeStands H.naming self.old.world event (λ g namings events. WorldStands NodeStands g namings self.new.world (event_of g (world g events) event ∷ events))) }
+        ensures said { IfOk result (λ said. ForStep NodeStands H.naming self.old.world event (λ g namings events. said ≡ said_of g (world g events) (event_of g (world g events) event))) }
+        ensures grows { OnOk result (ForStep NodeStands H.naming self.old.world event (λ g namings events. FewFaulty g → NoClash g (world g (event_of g (world g events) event ∷ events)).submits
+            → IsPrefix (chosen g (world g events)) (chosen g (world g (event_of g (world g events) event ∷ events))))) }
+        ensures ends { Ends self.old.world self.new.world result }
+        ensures skips { skips self.new.world ≡ skips self.old.world }
+        ensures keeps { Keeps self.old.held self.new.held }
+        ensures spent { self.old.world.ended ≡ true → self.new.held ≡ self.old.held }
+        ensures held { OnOk result (ForStep NodeStands H.naming self.old.world event (λ g namings events. self.new.held ≡ keep_all H.naming (strings_of g namings (world g events) event) self.old.held)) }
+        ensures all { OnOk result (ForStep NodeStands H.naming self.old.world event (λ g namings events. AreHeld H.naming self.new.held (strings_of g namings (world g events) event))) }
+        ensures apart { OnOk result (ForStep NodeStands H.naming self.old.world event (λ g namings events. NoneClash H.naming self.old.held (Contains (strings_of g namings (world g events) event)))) }
+        ensures grew { ForStep NodeStands H.naming self.old.world event (λ g namings events. Grew H.naming self.old.held (Contains (strings_of g namings (world g events) event)) self.new.held) }
+        ensures fault { IfErr result (λ fault. ForStep NodeStands H.naming self.old.world event (λ g namings events. IsStepClash H.naming self.new.held (Contains (strings_of g namings (world g events) event)) fault)) }
+        ensures clash { IfErr result (λ fault. ForStep NodeStands H.naming self.old.world event (λ g namings events. IsStepClashAmong H.naming self.old.held (Contains (strings_of g namings (world g events) event)) fault)) }
     {
-        let Site {
-            mut book,
-            mut world,
-        } = self;
-        match world.step(&mut book, event) {
-            Ok(said) => Ok((Site { book, world }, said)),
-            Err(fault) => Err(cause_of(fault)),
-        }
+        self.world.step(&mut self.book, event)
     }
 
-    /// The site after all that is pending was delivered and is not passed over, and how many messages
-    /// that were.
-    pub fn settle(self, skips: &Skips) -> Result<(Site<H>, u32), NameFault>
-        ensures settles { IfOk result (λ done. ForEvents NodeStands H.naming self.world (λ g namings events. Settles NodeStands g namings (is_skipped skips.now) events done.0.world done.1)) }
-        ensures held { IfOk result (λ done. ForEvents NodeStands H.naming self.world (λ g namings events.
-            done.0.held ≡ keep_all H.naming (named_along g namings events (settled g (is_skipped skips.now) events done.1)) self.held)) }
-        ensures all { IfOk result (λ done. ForEvents NodeStands H.naming self.world (λ g namings events.
-            AreHeld H.naming done.0.held (named_along g namings events (settled g (is_skipped skips.now) events done.1)))) }
-        ensures apart { OnOk result (ForEvents NodeStands H.naming self.world (λ g namings events. NoneClash H.naming self.held (IsNamedIn g namings (is_skipped skips.now) events))) }
-        ensures grew { IfOk result (λ done. ForEvents NodeStands H.naming self.world (λ g namings events. Grew H.naming self.held (IsNamedIn g namings (is_skipped skips.now) events) done.0.held)) }
-        ensures fault { IfErr result (λ fault. ForEvents NodeStands H.naming self.world (λ g namings events. IsClashAfter H.naming self.held (IsNamedIn g namings (is_skipped skips.now) events) fault)) }
-        ensures clash { IfErr result (λ fault. ForEvents NodeStands H.naming self.world (λ g namings events. IsClashAmong H.naming self.held (IsNamedIn g namings (is_skipped skips.now) events) fault)) }
+    /// Delivers, in the order of sending, each message that was never delivered and is not passed over,
+    /// those too that are sent meanwhile, and answers how many. Faults are as in [`Site::step`].
+    pub fn settle(&mut self) -> Result<u32, StepFault>
+        ensures settles { IfOk result (λ n. ForEvents NodeStands H.naming self.old.world (λ g namings events. Settles NodeStands g namings (is_skipped (skips self.old.world)) events self.new.world n)) }
+        ensures delivered { IfOk result (λ n. PassNothing (skips self.old.world) → ForEvents NodeStands H.naming self.old.world (λ g namings events.
+            AllDelivered g (world g (settled g (is_skipped (skips self.old.world)) events n ++ events)))) }
+        ensures executed { IfOk result (λ n. PassNothing (skips self.old.world) → ForEvents NodeStands H.naming self.old.world (λ g namings events. FewFaulty g → g.is_faulty 0 ≡ false
+            → (i : ℕ) → IsCorrect g i → (r : List ℕ) → Contains (world g (settled g (is_skipped (skips self.old.world)) events n ++ events)).submits r
+            → Contains (executed g ((world g (settled g (is_skipped (skips self.old.world)) events n ++ events)).got (member i))) r)) }
+        ensures grows { IfOk result (λ n. ForEvents NodeStands H.naming self.old.world (λ g namings events. FewFaulty g → NoClash g (world g (settled g (is_skipped (skips self.old.world)) events n ++ events)).submits
+            → IsPrefix (chosen g (world g events)) (chosen g (world g (settled g (is_skipped (skips self.old.world)) events n ++ events))))) }
+        ensures ends { Ends self.old.world self.new.world result }
+        ensures skips { skips self.new.world ≡ skips self.old.world }
+        ensures keeps { Keeps self.old.held self.new.held }
+        ensures spent { self.old.world.ended ≡ true → self.new.held ≡ self.old.held }
+        ensures held { IfOk result (λ n. ForEvents NodeStands H.naming self.old.world (λ g namings events.
+            self.new.held ≡ keep_all H.naming (named_along g namings events (settled g (is_skipped (skips self.old.world)) events n)) self.old.held)) }
+        ensures all { IfOk result (λ n. ForEvents NodeStands H.naming self.old.world (λ g namings events.
+            AreHeld H.naming self.new.held (named_along g namings events (settled g (is_skipped (skips self.old.world)) events n)))) }
+        ensures apart { OnOk result (ForEvents NodeStands H.naming self.old.world (λ g namings events. NoneClash H.naming self.old.held (IsNamedIn g namings (is_skipped (skips self.old.world)) events))) }
+        ensures grew { ForEvents NodeStands H.naming self.old.world (λ g namings events. Grew H.naming self.old.held (IsNamedIn g namings (is_skipped (skips self.old.world)) events) self.new.held) }
+        ensures fault { IfErr result (λ fault. ForEvents NodeStands H.naming self.old.world (λ g namings events. IsStepClash H.naming self.new.held (IsNamedIn g namings (is_skipped (skips self.old.world)) events) fault)) }
+        ensures clash { IfErr result (λ fault. ForEvents NodeStands H.naming self.old.world (λ g namings events. IsStepClashAmong H.naming self.old.held (IsNamedIn g namings (is_skipped (skips self.old.world)) events) fault)) }
     {
-        let Site {
-            mut book,
-            mut world,
-        } = self;
-        match world.settle(&mut book, skips) {
-            Ok(count) => Ok((Site { book, world }, count)),
-            Err(fault) => Err(cause_of(fault)),
-        }
+        self.world.settle(&mut self.book)
     }
 
-    /// The site after a string was named, and the name.
-    pub fn name(self, bytes: &[u8]) -> Result<(Site<H>, Name), NameFault>
-        ensures name { IfOk result (λ done. done.1 ≡ H.naming bytes.now) }
-        ensures world { IfOk result (λ done. done.0.world ≡ self.world) }
-        ensures held { IfOk result (λ done. done.0.held ≡ map.insert self.held (H.naming bytes.now) bytes.now) }
-        ensures grew { IfOk result (λ done. Grew H.naming self.held (λ string. string ≡ bytes.now) done.0.held) }
-        ensures fault { IfErr result (IsClashAfter H.naming self.held (λ string. string ≡ bytes.now)) }
+    /// The message at this place, from 1 on, is lost, sent or not yet sent: settles pass over it. Where
+    /// memory runs out the world has ended.
+    pub fn lose(&mut self, from: Party, to: Party, place: u32) -> Result<(), OutOfMemory>
+        requires { IsSeat (who from) × IsSeat (who to) × (0 < place) }
+        ensures lost { OnOk result ((a : Place) → (skips self.new.world).lost a ≡ ((skips self.old.world).lost a || stands_at a (from, to, place))) }
+        ensures muted { OnOk result ((skips self.new.world).muted ≡ (skips self.old.world).muted) }
+        ensures stands { OnOk result ((g : Ring) (namings : Namings) (events : List model.Event) → WorldStands NodeStands g namings self.old.world events → WorldStands NodeStands g namings self.new.world events) }
+        ensures held { self.new.held ≡ self.old.held }
+        ensures going { OnOk result (self.new.world.ended ≡ self.old.world.ended) }
+        ensures ends { OnErr result (self.new.world.ended ≡ true) }
     {
-        let Site { mut book, world } = self;
-        match book.name(bytes) {
-            Ok(name) => Ok((Site { book, world }, name)),
-            Err(fault) => Err(fault),
-        }
+        self.world.lose(from, to, place)
     }
 
-    /// The book and the world, to name further strings in the book: it holds all that the world named,
-    /// and the world has not ended. Takes no memory.
+    /// Settles pass over messages from and to this party. Where memory runs out the world has ended.
+    pub fn mute(&mut self, party: Party) -> Result<(), OutOfMemory>
+        requires { IsSeat (who party) }
+        ensures muted { OnOk result ((p : Who) → (skips self.new.world).muted p ≡ ((skips self.old.world).muted p || same_party (who party) p)) }
+        ensures lost { OnOk result ((skips self.new.world).lost ≡ (skips self.old.world).lost) }
+        ensures stands { OnOk result ((g : Ring) (namings : Namings) (events : List model.Event) → WorldStands NodeStands g namings self.old.world events → WorldStands NodeStands g namings self.new.world events) }
+        ensures held { self.new.held ≡ self.old.held }
+        ensures going { OnOk result (self.new.world.ended ≡ self.old.world.ended) }
+        ensures ends { OnErr result (self.new.world.ended ≡ true) }
+    {
+        self.world.mute(party)
+    }
+
+    /// Settles pass over messages from and to this party no more. Where memory runs out the world has
+    /// ended.
+    pub fn unmute(&mut self, party: Party) -> Result<(), OutOfMemory>
+        requires { IsSeat (who party) }
+        ensures muted { OnOk result ((p : Who) → (skips self.new.world).muted p ≡ ((skips self.old.world).muted p && not (same_party (who party) p))) }
+        ensures lost { OnOk result ((skips self.new.world).lost ≡ (skips self.old.world).lost) }
+        ensures stands { OnOk result ((g : Ring) (namings : Namings) (events : List model.Event) → WorldStands NodeStands g namings self.old.world events → WorldStands NodeStands g namings self.new.world events) }
+        ensures held { self.new.held ≡ self.old.held }
+        ensures going { OnOk result (self.new.world.ended ≡ self.old.world.ended) }
+        ensures ends { OnErr result (self.new.world.ended ≡ true) }
+    {
+        self.world.unmute(party)
+    }
+
+    /// Names a string, and answers its name. The world stays as it is.
+    pub fn name(&mut self, bytes: &[u8]) -> Result<Name, NameFault>
+        ensures name { IfOk result (λ name. name ≡ H.naming bytes.now) }
+        ensures world { self.new.world ≡ self.old.world }
+        ensures held { OnOk result (self.new.held ≡ map.insert self.old.held (H.naming bytes.now) bytes.now) }
+        ensures grew { Grew H.naming self.old.held (λ string. string ≡ bytes.now) self.new.held }
+        ensures fault { IfErr result (IsClashIn H.naming self.new.held (λ string. string ≡ bytes.now)) }
+    {
+        self.book.name(bytes)
+    }
+
+    /// The book and the world, to name further strings in the book: unless the world has ended, the book
+    /// holds all that it named. Takes no memory.
     pub fn into_parts(self) -> (Book<H>, World<Node>)
         ensures book { result.0.held ≡ self.held }
         ensures world { result.1 ≡ self.world }
-        ensures known { IsKnown node.IsKnown H.naming result.0.held result.1 }
-        ensures going { result.1.ended ≡ false }
+        ensures known { result.1.ended ≡ false → IsKnown node.IsKnown H.naming result.0.held result.1 }
     {
         let Site { book, world } = self;
         (book, world)
     }
 
-    /// The site of a world that has not ended, and of a book that holds all that it named. Takes no
-    /// memory.
+    /// The site of a world that has ended, or whose book holds all that it named. Takes no memory.
     pub fn of(book: Book<H>, world: World<Node>) -> Site<H>
-        requires known { IsKnown node.IsKnown H.naming book.held world }
-        requires going { world.ended ≡ false }
+        requires { world.ended ≡ false → IsKnown node.IsKnown H.naming book.held world }
         ensures held { result.held ≡ book.held }
         ensures world { result.world ≡ world }
     {
         Site { book, world }
     }
 
-    /// The world. Its book holds all that it named, and it has not ended. Takes no memory.
+    /// The world. Unless it has ended, the book holds all that it named. Takes no memory.
     pub fn world(&self) -> &World<Node>
         ensures world { result.now ≡ self.now.world }
-        ensures known { IsKnown node.IsKnown H.naming self.now.held result.now }
+        ensures known { result.now.ended ≡ false → IsKnown node.IsKnown H.naming self.now.held result.now }
     {
         &self.world
     }
 
     /// A client of the world. What it believes of versions and of its requests is so in the fold of the
     /// committed list, and once all was delivered and member 0 is correct it believes an outcome of each
-    /// of its requests and holds the heart of each last version. Takes no memory.
+    /// of its requests and holds the heart of the last version of each label whose string the book has,
+    /// as it has of each label that was submitted. Takes no memory.
     pub fn client(&self, client: ClientId) -> &Client
         requires { client.0 < length self.now.world.clients.items }
         ensures stands { (g : Ring) (namings : Namings) (events : List model.Event) → WorldStands NodeStands g namings self.now.world events
@@ -182,7 +228,7 @@ impl<H: Hash160 + Drop> Site<H> {
         ensures seals { ForSetups H.naming self.now.world (λ block manifest g events. SealsAreManifests H.naming block manifest g events client.0) }
         ensures replies { ForSetups H.naming self.now.world (λ block manifest g events. RepliesAreOutcomes H.naming block g events client.0) }
         ensures answered { ForSetups H.naming self.now.world (λ block manifest g events. g.is_faulty 0 ≡ false → AllDelivered g (world g events) → AreAnswered g events client.0) }
-        ensures told { ForSetups H.naming self.now.world (λ block manifest g events. g.is_faulty 0 ≡ false → AllDelivered g (world g events) → HoldsTheLast H.naming block g events client.0) }
+        ensures told { ForSetups H.naming self.now.world (λ block manifest g events. g.is_faulty 0 ≡ false → AllDelivered g (world g events) → HoldsTheLast H.naming self.now.held block g events client.0) }
     {
         ring_is_sound();
         heart_is_version();
@@ -190,6 +236,7 @@ impl<H: Hash160 + Drop> Site<H> {
         reply_is_outcome();
         last_is_told();
         self.world.submits_apart(&self.book);
+        self.world.labels_held(&self.book);
         self.world.client(client)
     }
 
@@ -205,15 +252,3 @@ impl<H: Hash160 + Drop> Site<H> {
 pub fn worlds_stay_known()
     ensures { WorldsStayKnown }
 {}
-
-// Why a string is not named, where a world has not ended before.
-fn cause_of(fault: StepFault) -> NameFault
-    requires { fault ≢ Ended }
-    ensures { fault ≡ step_fault result }
-{
-    match fault {
-        StepFault::Clash { old, new } => NameFault::Clash { old, new },
-        StepFault::Ended => unreachable!(),
-        StepFault::Memory => NameFault::Memory,
-    }
-}

@@ -19,7 +19,22 @@ use Rattle.ring_mail.specs.declared.kept.Mail.{Mail}
 use Rattle.ring_mail.specs.Seats.{IsSeat}
 use Rattle.ring_mail.specs.Places.{seat, link_of, Place, placed, places, is_done, same_place, place_of, delivery}
 use Rattle.ring_mail.specs.Places.{packet_of}
-use Rattle.ring_mail.specs.Mails.{is_marked, IsLink, AreKept, IsMail}
+use Rattle.ring_mail.specs.Mails.{is_marked, number_of, IsLink, AreKept, IsMail}
+
+-- ---- lists
+
+pub slice_left : {X : Type 0} (xs ys : List X) (n : ℕ) (a : X) → slice_get xs n ≡ Some a → slice_get (xs ++ ys) n ≡ Some a
+slice_left [] ys n a e = absurd (cc e)
+slice_left (x ∷ xs) ys zero a e = e
+slice_left (x ∷ xs) ys (suc n) a e = slice_left xs ys n a e
+
+-- the last one of a list, or one before
+pub slice_pushed : {X : Type 0} (xs : List X) (y : X) (n : ℕ)
+    → ((n ≡ length xs) × (slice_get (xs ++ y ∷ []) n ≡ Some y) × (slice_get xs n ≡ None)) ⊎ ((n ≡ length xs → ⊥) × (slice_get (xs ++ y ∷ []) n ≡ slice_get xs n))
+slice_pushed [] y zero = inl (refl, refl, refl)
+slice_pushed [] y (suc n) = inr (λ e. absurd (omega arith), refl)
+slice_pushed (x ∷ xs) y zero = inr (λ e. absurd (omega arith), refl)
+slice_pushed (x ∷ xs) y (suc n) = ⊎_elim (λ h. inl (ap suc h.0, h.1, h.2)) (λ h. inr (λ e. h.0 (omega arith), h.1)) (slice_pushed xs y n)
 
 -- ---- places
 
@@ -113,9 +128,36 @@ marked_push [] e (suc k) n = refl
 marked_push (x ∷ kept) e zero n = refl
 marked_push (x ∷ kept) e (suc k) n = marked_push kept e k n
 
-pub link_pushed : (kept : List Kept) (e : Kept) (p q : Who) (sent : List Sent) (done : List Place) → e.delivered ≡ false → IsLink kept p q sent done
+-- the places of all messages with one more
+pub places_more : (sent : List Sent) (x : Sent) → places (sent ++ x ∷ []) ≡ places sent ++ record { from = x.from; to = x.to; place = length (between x.from x.to sent) } ∷ []
+places_more sent x = placed-append [] sent (x ∷ [])
+
+pub link_size : (kept : List Kept) (p q : Who) (sent : List Sent) (done : List Place) → IsLink kept p q sent done → length kept ≡ length (between p q sent)
+link_size kept p q sent done h = sym (length-map kept (λ (e : Kept). packet_of p q e.bytes)) ∙ ap length h.messages
+
+numbers_more : (kept : List Kept) (p q : Who) (sent : List Sent) (done : List Place) (x : Sent) (k n : ℕ) → IsLink kept p q sent done → number_of (slice_get kept k) ≡ Some n
+    → slice_get (places (sent ++ x ∷ [])) n ≡ Some (record { from = p; to = q; place = k })
+numbers_more kept p q sent done x k n h e = ap (λ ps. slice_get ps n) (places_more sent x) ∙ slice_left (places sent) _ n _ (h.numbers k n e)
+
+number_pushed : (kept : List Kept) (e : Kept) (p q : Who) (sent : List Sent) (done : List Place) → e.number ≡ length sent → IsLink kept p q sent done
+    → (k n : ℕ) → number_of (slice_get (kept ++ e ∷ []) k) ≡ Some n → slice_get (places (sent ++ packet_of p q e.bytes ∷ [])) n ≡ Some (record { from = p; to = q; place = k })
+number_pushed kept e p q sent done last h k n is =
+    ⊎_elim
+    (λ (s : (k ≡ length kept) × (slice_get (kept ++ e ∷ []) k ≡ Some e) × (slice_get kept k ≡ None)).
+    let at : n ≡ length (places sent) = sym (same_some e.number n (sym (ap number_of s.1) ∙ is)) ∙ last ∙ sym (length-placed [] sent) in
+    let here : k ≡ length (between p q sent) = s.0 ∙ link_size kept p q sent done h in
+    ap (λ ps. slice_get ps n) (places_more sent (packet_of p q e.bytes)) ∙ ap (slice_get (places sent ++ record { from = p; to = q; place = length (between p q sent) } ∷ [])) at
+    ∙ slice_end (places sent) (record { from = p; to = q; place = length (between p q sent) }) ∙ ap (λ k. Some (record { from = p; to = q; place = k })) (sym here))
+    (λ s. numbers_more kept p q sent done (packet_of p q e.bytes) k n h (sym (ap number_of s.1) ∙ is))
+    (slice_pushed kept e k)
+  where
+    slice_end : {X : Type 0} (xs : List X) (y : X) → slice_get (xs ++ y ∷ []) (length xs) ≡ Some y
+    slice_end [] y = refl
+    slice_end (x ∷ xs) y = slice_end xs y
+
+pub link_pushed : (kept : List Kept) (e : Kept) (p q : Who) (sent : List Sent) (done : List Place) → e.delivered ≡ false → e.number ≡ length sent → IsLink kept p q sent done
     → IsLink (kept ++ e ∷ []) p q (sent ++ packet_of p q e.bytes ∷ []) done
-link_pushed kept e p q sent done n h =
+link_pushed kept e p q sent done n last h =
     record {
       messages =
           map-append (λ (e : Kept). packet_of p q e.bytes) kept (e ∷ [])
@@ -124,6 +166,7 @@ link_pushed kept e p q sent done n h =
           (filter-append (λ (x : Sent). same_party x.from p && same_party x.to q) sent (packet_of p q e.bytes ∷ [])
           ∙ ap (λ b. between p q sent ++ cond b (packet_of p q e.bytes ∷ []) []) (and_from (same_party p p) (same_party q q) (same_party-refl p) (same_party-refl q)));
       marks = λ k. marked_push kept e k n ∙ h.marks k;
+      numbers = number_pushed kept e p q sent done last h;
     }
 
 pub link_passed : (kept : List Kept) (x : Sent) (p q : Who) (sent : List Sent) (done : List Place) → (same_party x.from p && same_party x.to q) ≡ false → IsLink kept p q sent done
@@ -135,6 +178,7 @@ link_passed kept x p q sent done t h =
           (filter-append (λ (x : Sent). same_party x.from p && same_party x.to q) sent (x ∷ [])
           ∙ ap (λ b. between p q sent ++ cond b (x ∷ []) []) t ∙ append-nil (between p q sent));
       marks = h.marks;
+      numbers = λ k n e. numbers_more kept p q sent done x k n h e;
     }
 
 -- ---- a link as a message is delivered
@@ -172,9 +216,17 @@ marked_set (x ∷ kept) (suc at) e (suc k) low is =
 pub bytes_set : (p q : Who) (kept : List Kept) (at : ℕ) (e d : Kept) → e.bytes ≡ (get_or kept at d).bytes → map (λ (e : Kept). packet_of p q e.bytes) (set kept at e) ≡ map (λ (e : Kept). packet_of p q e.bytes) kept
 bytes_set p q kept at e d same = map-set_same (λ (e : Kept). packet_of p q e.bytes) kept at e d (ap (packet_of p q) same)
 
-pub link_marked : (kept : List Kept) (at : ℕ) (e d : Kept) (p q : Who) (sent : List Sent) (done : List Place) → at < length kept → e.delivered ≡ true → e.bytes ≡ (get_or kept at d).bytes → IsLink kept p q sent done
+numbers_set : (kept : List Kept) (at : ℕ) (e d : Kept) (k : ℕ) → e.number ≡ (get_or kept at d).number → number_of (slice_get (set kept at e) k) ≡ number_of (slice_get kept k)
+numbers_set [] at e d k same = refl
+numbers_set (x ∷ kept) zero e d zero same = ap Some same
+numbers_set (x ∷ kept) zero e d (suc k) same = refl
+numbers_set (x ∷ kept) (suc at) e d zero same = refl
+numbers_set (x ∷ kept) (suc at) e d (suc k) same = numbers_set kept at e d k same
+
+pub link_marked : (kept : List Kept) (at : ℕ) (e d : Kept) (p q : Who) (sent : List Sent) (done : List Place) → at < length kept → e.delivered ≡ true → e.bytes ≡ (get_or kept at d).bytes → e.number ≡ (get_or kept at d).number → IsLink kept p q sent done
     → IsLink (set kept at e) p q sent (done ++ record { from = p; to = q; place = at } ∷ [])
-link_marked kept at e d p q sent done low is same h = record { messages = bytes_set p q kept at e d same ∙ h.messages; marks = marks }
+link_marked kept at e d p q sent done low is same number h =
+    record { messages = bytes_set p q kept at e d same ∙ h.messages; marks = marks; numbers = λ k n e'. h.numbers k n (sym (numbers_set kept at e d k number) ∙ e') }
   where
     a : Place
     a = record { from = p; to = q; place = at }
@@ -197,6 +249,7 @@ link_other kept a p q sent done t h =
           ∙ sym (or_false (is_done done (record { from = p; to = q; place = k })))
           ∙ ap (λ b. is_done done (record { from = p; to = q; place = k }) || ((b && nat_eq a.place k) || false)) (sym t)
           ∙ sym (list_any-append (λ b. same_place b (record { from = p; to = q; place = k })) done (a ∷ []));
+      numbers = h.numbers;
     }
 
 -- ---- the first places
@@ -225,42 +278,46 @@ done_still done more a e = list_any-append (λ b. same_place b a) done more ∙ 
 
 pub front_within : (m : Mail) (sent : List Sent) (done : List Place) → IsMail m sent done → m.front ≤ length (places sent)
 front_within m sent done h =
-    let size : length m.order.items ≡ length (places sent) = sym (length-map m.order.items place_of) ∙ ap length h.order_is in
+    let size : length m.order.items ≡ length (places sent) = sym (length-map m.order.items place_of) ∙ ap length h.kept.order_is in
     omega (arith, size, m.within)
+
+-- the notes are as many as the messages
+pub all_sent : (m : Mail) (sent : List Sent) (done : List Place) → IsMail m sent done → length m.order.items ≡ length sent
+all_sent m sent done h = sym (length-map m.order.items place_of) ∙ ap length h.kept.order_is ∙ length-placed [] sent
 
 -- ---- all links
 
-pub mail_pushed : (m : Mail) (n : ℕ) (v d e : Vec Kept Global) (o : Vec Note Global) (p q : Who) (bytes : Bytes Global) (note : Note) (sent : List Sent) (done : List Place)
-    → IsSeat p → IsSeat q → n ≡ link_of p q → v.items ≡ (get_or m.links.items n d).items ++ record { bytes = bytes; delivered = false } ∷ []
-    → o.items ≡ m.order.items ++ note ∷ [] → place_of note ≡ record { from = p; to = q; place = length (get_or m.links.items n e).items } → IsMail m sent done
+pub mail_pushed : (m : Mail) (n : ℕ) (v d e : Vec Kept Global) (o : Vec Note Global) (p q : Who) (bytes : Bytes Global) (number : ℕ) (note : Note) (sent : List Sent) (done : List Place)
+    → IsSeat p → IsSeat q → n ≡ link_of p q → v.items ≡ (get_or m.links.items n d).items ++ record { bytes = bytes; number = number; delivered = false } ∷ []
+    → number ≡ length m.order.items → o.items ≡ m.order.items ++ note ∷ [] → place_of note ≡ record { from = p; to = q; place = length (get_or m.links.items n e).items } → IsMail m sent done
     → AreKept (set m.links.items n v) o.items m.front (sent ++ packet_of p q bytes ∷ []) done
-mail_pushed m n v d e o p q bytes note sent done a b at is more place h =
+mail_pushed m n v d e o p q bytes number note sent done a b at is last more place h =
     record {
-      count = length-set m.links.items n v ∙ h.count;
+      count = length-set m.links.items n v ∙ h.kept.count;
       links_are = λ u w x c f.
           subst (λ n. IsLink (get_or (set m.links.items n v) (link_of u w) x).items u w (sent ++ packet_of p q bytes ∷ []) done) (sym at)
           (⊎_elim
           (λ (s : (p ≡ u) × (q ≡ w) × (get_or (set m.links.items (link_of p q) v) (link_of u w) x ≡ v)).
           subst (λ xs. IsLink xs u w (sent ++ packet_of p q bytes ∷ []) done) (sym (ap (λ (v : Vec Kept Global). v.items) s.2 ∙ is))
-          (subst₂ (λ u w. IsLink ((get_or m.links.items n d).items ++ record { bytes = bytes; delivered = false } ∷ []) u w (sent ++ packet_of p q bytes ∷ []) done) s.0 s.1
-          (link_pushed (get_or m.links.items n d).items (record { bytes = bytes; delivered = false }) p q sent done refl
-          (subst (λ n. IsLink (get_or m.links.items n d).items p q sent done) (sym at) (h.links_are p q d a b)))))
+          (subst₂ (λ u w. IsLink ((get_or m.links.items n d).items ++ record { bytes = bytes; number = number; delivered = false } ∷ []) u w (sent ++ packet_of p q bytes ∷ []) done) s.0 s.1
+          (link_pushed (get_or m.links.items n d).items (record { bytes = bytes; number = number; delivered = false }) p q sent done refl (last ∙ all_sent m sent done h)
+          (subst (λ n. IsLink (get_or m.links.items n d).items p q sent done) (sym at) (h.kept.links_are p q d a b)))))
           (λ s.
           subst (λ (v : Vec Kept Global). IsLink v.items u w (sent ++ packet_of p q bytes ∷ []) done) (sym s.1)
-          (link_passed (get_or m.links.items (link_of u w) x).items (packet_of p q bytes) u w sent done s.0 (h.links_are u w x c f)))
-          (link_set m.links.items v x p q u w a b c f h.count));
+          (link_passed (get_or m.links.items (link_of u w) x).items (packet_of p q bytes) u w sent done s.0 (h.kept.links_are u w x c f)))
+          (link_set m.links.items v x p q u w a b c f h.kept.count));
       order_is =
-          ap (map place_of) more ∙ map-append place_of m.order.items (note ∷ []) ∙ ap (λ xs. xs ++ place_of note ∷ []) h.order_is
+          ap (map place_of) more ∙ map-append place_of m.order.items (note ∷ []) ∙ ap (λ xs. xs ++ place_of note ∷ []) h.kept.order_is
           ∙ ap (λ x. places sent ++ x ∷ []) (place ∙ ap (λ k. record { from = p; to = q; place = k }) size)
           ∙ sym (placed-append [] sent (packet_of p q bytes ∷ []));
-      seats = Each-append (λ x. IsSeat x.from × IsSeat x.to) sent (packet_of p q bytes ∷ []) h.seats ((a, b), tt);
+      seats = Each-append (λ x. IsSeat x.from × IsSeat x.to) sent (packet_of p q bytes ∷ []) h.kept.seats ((a, b), tt);
       front_done =
           subst (λ xs. Each (λ a. is_done done a ≡ true) (take m.front xs)) (sym (placed-append [] sent (packet_of p q bytes ∷ [])))
-          (take_front (λ a. is_done done a ≡ true) (places sent) (placed sent (packet_of p q bytes ∷ [])) m.front (front_within m sent done h) h.front_done);
+          (take_front (λ a. is_done done a ≡ true) (places sent) (placed sent (packet_of p q bytes ∷ [])) m.front (front_within m sent done h) h.kept.front_done);
     }
   where
     size : length (get_or m.links.items n e).items ≡ length (between p q sent)
-    size = ap (λ n. length (get_or m.links.items n e).items) at ∙ sym (length-map (get_or m.links.items (link_of p q) e).items (λ (e : Kept). packet_of p q e.bytes)) ∙ ap length (h.links_are p q e a b).messages
+    size = ap (λ n. length (get_or m.links.items n e).items) at ∙ sym (length-map (get_or m.links.items (link_of p q) e).items (λ (e : Kept). packet_of p q e.bytes)) ∙ ap length (h.kept.links_are p q e a b).messages
 
 -- where there is a message, the delivery counts
 pub delivery_there : (sent : List Sent) (a : Place) (x : Sent) → slice_get (between a.from a.to sent) a.place ≡ Some x → delivery sent a ≡ a ∷ []
@@ -299,35 +356,35 @@ pub mail_delivered : (m : Mail) (n : ℕ) (v d : Vec Kept Global) (p q : Who) (k
     → AreKept (set m.links.items n v) m.order.items m.front sent (done ++ delivery sent (record { from = p; to = q; place = k }))
 mail_delivered m n v d p q k sent done a b at is h =
     record {
-      count = length-set m.links.items n v ∙ h.count;
+      count = length-set m.links.items n v ∙ h.kept.count;
       links_are = λ u w e c f.
           subst (λ n. IsLink (get_or (set m.links.items n v) (link_of u w) e).items u w sent (done ++ delivery sent (record { from = p; to = q; place = k }))) (sym at)
           (⊎_elim
           (λ (s : (p ≡ u) × (q ≡ w) × (get_or (set m.links.items (link_of p q) v) (link_of u w) e ≡ v)).
           subst (λ (v : Vec Kept Global). IsLink v.items u w sent (done ++ delivery sent (record { from = p; to = q; place = k }))) (sym s.2)
           (subst₂ (λ u w. IsLink v.items u w sent (done ++ delivery sent (record { from = p; to = q; place = k }))) s.0 s.1
-          (is sent done (subst (λ n. IsLink (get_or m.links.items n d).items p q sent done) (sym at) (h.links_are p q d a b)))))
+          (is sent done (subst (λ n. IsLink (get_or m.links.items n d).items p q sent done) (sym at) (h.kept.links_are p q d a b)))))
           (λ s.
           subst (λ (v : Vec Kept Global). IsLink v.items u w sent (done ++ delivery sent (record { from = p; to = q; place = k }))) (sym s.1)
-          (link_elsewhere (get_or m.links.items (link_of u w) e).items (record { from = p; to = q; place = k }) u w sent done s.0 (h.links_are u w e c f)))
-          (link_set m.links.items v e p q u w a b c f h.count));
-      order_is = h.order_is;
-      seats = h.seats;
+          (link_elsewhere (get_or m.links.items (link_of u w) e).items (record { from = p; to = q; place = k }) u w sent done s.0 (h.kept.links_are u w e c f)))
+          (link_set m.links.items v e p q u w a b c f h.kept.count));
+      order_is = h.kept.order_is;
+      seats = h.kept.seats;
       front_done = take_weaker (λ a. is_done done a ≡ true) (λ a. is_done (done ++ delivery sent (record { from = p; to = q; place = k })) a ≡ true) (places sent) m.front
-          (λ a. done_still done (delivery sent (record { from = p; to = q; place = k })) a) h.front_done;
+          (λ a. done_still done (delivery sent (record { from = p; to = q; place = k })) a) h.kept.front_done;
     }
 
 -- a link is not longer than the list
 pub link_short : (m : Mail) (n : ℕ) (d : Vec Kept Global) (p q : Who) (sent : List Sent) (done : List Place) → IsSeat p → IsSeat q → n ≡ link_of p q → IsMail m sent done → length (get_or m.links.items n d).items ≤ length sent
 link_short m n d p q sent done a b at h =
     let size : length (get_or m.links.items n d).items ≡ length (between p q sent) =
-    ap (λ n. length (get_or m.links.items n d).items) at ∙ sym (length-map (get_or m.links.items (link_of p q) d).items (λ (e : Kept). packet_of p q e.bytes)) ∙ ap length (h.links_are p q d a b).messages in
+    ap (λ n. length (get_or m.links.items n d).items) at ∙ sym (length-map (get_or m.links.items (link_of p q) d).items (λ (e : Kept). packet_of p q e.bytes)) ∙ ap length (h.kept.links_are p q d a b).messages in
     let short = filter-short (λ (x : Sent). same_party x.from p && same_party x.to q) sent in
     omega arith
 
 pub link_found : (m : Mail) (n : ℕ) (v d : Vec Kept Global) (p q : Who) (sent : List Sent) (done : List Place) → IsSeat p → IsSeat q → n ≡ link_of p q → v ≡ get_or m.links.items n d → IsMail m sent done → IsLink v.items p q sent done
 link_found m n v d p q sent done a b at is h =
-    subst (λ (v : Vec Kept Global). IsLink v.items p q sent done) (sym is) (subst (λ n. IsLink (get_or m.links.items n d).items p q sent done) (sym at) (h.links_are p q d a b))
+    subst (λ (v : Vec Kept Global). IsLink v.items p q sent done) (sym is) (subst (λ n. IsLink (get_or m.links.items n d).items p q sent done) (sym at) (h.kept.links_are p q d a b))
 
 -- ---- the first place that passes a test
 
@@ -363,12 +420,12 @@ placed_seats before [] h = tt
 placed_seats before (x ∷ xs) h = (h.0, placed_seats (before ++ x ∷ []) xs h.1)
 
 pub noted : (m : Mail) (i : ℕ) (d : Note) (sent : List Sent) (done : List Place) → i < length m.order.items → IsMail m sent done → slice_get (places sent) i ≡ Some (place_of (get_or m.order.items i d))
-noted m i d sent done low h = sym (ap (λ xs. slice_get xs i) h.order_is) ∙ slice_get-map place_of m.order.items i ∙ ap (option_map place_of) (slice_get-get_or m.order.items i d low)
+noted m i d sent done low h = sym (ap (λ xs. slice_get xs i) h.kept.order_is) ∙ slice_get-map place_of m.order.items i ∙ ap (option_map place_of) (slice_get-get_or m.order.items i d low)
 
 pub noted_seats : (m : Mail) (i : ℕ) (d : Note) (sent : List Sent) (done : List Place) → i < length m.order.items → IsMail m sent done
     → IsSeat (place_of (get_or m.order.items i d)).from × IsSeat (place_of (get_or m.order.items i d)).to
 noted_seats m i d sent done low h =
-    Each-at (λ (a : Place). IsSeat a.from × IsSeat a.to) (places sent) i (place_of (get_or m.order.items i d)) (placed_seats [] sent h.seats) (noted m i d sent done low h)
+    Each-at (λ (a : Place). IsSeat a.from × IsSeat a.to) (places sent) i (place_of (get_or m.order.items i d)) (placed_seats [] sent h.kept.seats) (noted m i d sent done low h)
 
 abbrev pub undone : List Place → Place → Bool
 undone done a = not (is_done done a)
@@ -379,7 +436,7 @@ Tells m b n = (sent : List Sent) (done : List Place) → IsMail m sent done → 
 
 pub pending_front : (m : Mail) (sent : List Sent) (done : List Place) → IsMail m sent done → find (undone done) (places sent) ≡ find (undone done) (drop m.front (places sent))
 pending_front m sent done h =
-    find_behind (undone done) (places sent) m.front (take_weaker (λ a. is_done done a ≡ true) (λ a. undone done a ≡ false) (places sent) m.front (λ a e. ap not e) h.front_done)
+    find_behind (undone done) (places sent) m.front (take_weaker (λ a. is_done done a ≡ true) (λ a. undone done a ≡ false) (places sent) m.front (λ a e. ap not e) h.kept.front_done)
 
 pub pending_here : (m : Mail) (i : ℕ) (n : Note) (b : Bool) (sent : List Sent) (done : List Place) → i < length m.order.items → n ≡ get_or m.order.items i n → Tells m b n → b ≡ false → IsMail m sent done
     → find (undone done) (drop i (places sent)) ≡ Some (place_of n)
@@ -399,7 +456,7 @@ pending_later m i n b sent done low is tells was h =
 
 pub pending_past : (m : Mail) (i : ℕ) (sent : List Sent) (done : List Place) → length m.order.items ≤ i → IsMail m sent done → find (undone done) (drop i (places sent)) ≡ None
 pending_past m i sent done past h =
-    let size : length m.order.items ≡ length (places sent) = sym (length-map m.order.items place_of) ∙ ap length h.order_is in
+    let size : length m.order.items ≡ length (places sent) = sym (length-map m.order.items place_of) ∙ ap length h.kept.order_is in
     find_past (undone done) (places sent) i (omega (arith, size, past))
 
 -- one more of the first messages was delivered
@@ -411,9 +468,9 @@ front_more m n b sent done low is tells was h =
     let given = sym (tells sent done h (subst (λ n. IsSeat (place_of n).from) (sym is) seats.0) (subst (λ n. IsSeat (place_of n).to) (sym is) seats.1)) ∙ was in
     let next : suc m.front ≡ m.front + 1 = omega arith in
     record {
-      count = h.count;
-      links_are = h.links_are;
-      order_is = h.order_is;
-      seats = h.seats;
-      front_done = subst (λ k. Each (λ a. is_done done a ≡ true) (take k (places sent))) next (take_then (λ a. is_done done a ≡ true) (places sent) m.front (place_of n) h.front_done there given);
+      count = h.kept.count;
+      links_are = h.kept.links_are;
+      order_is = h.kept.order_is;
+      seats = h.kept.seats;
+      front_done = subst (λ k. Each (λ a. is_done done a ≡ true) (take k (places sent))) next (take_then (λ a. is_done done a ≡ true) (places sent) m.front (place_of n) h.kept.front_done there given);
     }

@@ -1,3 +1,6 @@
+pub mod Behind
 pub mod Mails
 pub mod Places
+pub mod Queues
 pub mod Seats
+pub mod Skips

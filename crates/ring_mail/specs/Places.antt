@@ -1,5 +1,5 @@
 -- Where messages stand, and which of them were delivered.
-use Rattle.std.specs.Prelude.{ℕ, ◌+◌, ◌*◌, Bool, ◌==◌, ◌&&◌, List, [], ◌∷◌, ◌++◌, length, slice_get, Option, Some, None}
+use Rattle.std.specs.Prelude.{ℕ, ◌+◌, ◌*◌, Bool, not, ◌==◌, ◌&&◌, List, [], ◌∷◌, ◌++◌, length, slice_get, Option, Some, None}
 use Rattle.std.specs.List.{list_any}
 use Rattle.ring_model.specs.Messages.{Party, Member, Client, Packet, same_party}
 use Rattle.ring_model.specs.World.{between}
@@ -43,6 +43,10 @@ places sent = placed [] sent
 -- whether this place was delivered
 abbrev pub is_done : List Place → Place → Bool
 is_done done a = list_any (λ b. same_place b a) done
+
+-- whether this place was never delivered and is not skipped
+abbrev pub is_due : (Place → Bool) → List Place → Place → Bool
+is_due skipped done a = not (is_done done a) && not (skipped a)
 
 -- what a delivery adds to the places that were delivered: nothing where there is no such message
 abbrev pub delivery : List Packet → Place → List Place

@@ -22,6 +22,16 @@ pub(crate) fn take_out(kept: &mut Vec<Kept>, at: usize) -> Result<Option<Bytes>,
     Ok(Some(bytes))
 }
 
+// The number of the message at a place, where there is one.
+pub(crate) fn number_at(kept: &[Kept], at: usize) -> Option<u32>
+    ensures { result ≡ option_map (λ one. one.number) (slice_get kept.now at) }
+{
+    match kept.get(at) {
+        Some(one) => Some(one.number),
+        None => None,
+    }
+}
+
 // The bytes of a message, shared.
 fn copy(kept: &Kept) -> Result<Bytes, OutOfMemory>
     ensures { IfOk result (λ bytes. bytes ≡ kept.now.bytes) }

@@ -18,7 +18,7 @@ pub fn same_party(one: Party, other: Party) -> bool
 }
 
 // The number of a party's seat: members have the first ten.
-fn seat(party: Party) -> usize
+pub(crate) fn seat(party: Party) -> usize
     ensures value { result ≡ seat_of (who party) }
     ensures low { result < 266 }
 {

@@ -16,7 +16,8 @@ use Rattle.ring_model.proofs.History.{passing_parts}
 use Rattle.ring_model.proofs.Lists.{run_has}
 use Rattle.ring_member.specs.Views.{View, inner, and_then, proposal, is_order, endorsed_in, is_voted, prepared_in, Casts, Proposes, Hears}
 use Rattle.ring_member.specs.Standing.{order, Live, Stands}
-use Rattle.ring_member.specs.Told.{news_of, votes_told, prepare_heard, commit_heard}
+use Rattle.member_orders.specs.Told.{news_of}
+use Rattle.ring_member.specs.Told.{votes_told, prepare_heard, commit_heard}
 use Rattle.ring_member.proofs.Deciding.{endorsed_is, prepared_is}
 use Rattle.vote_model.specs.Joins.{letter}
 use Rattle.ring_member.proofs.Letters.{or_none, proposal_same, cast_live, propose_live}

@@ -1,19 +1,17 @@
 -- A member, and the letters that it stands for.
-use Rattle.std.specs.Prelude.{◌≡◌, ◌<◌, ℕ, zero, suc, ◌+◌, ◌-◌, ◌==◌, cond, List, [], ◌∷◌, ◌++◌, length, Option, None, slice_get, count_by}
-use Rattle.std.specs.List.{range_with_len, AllByRecursion}
+use Rattle.std.specs.Prelude.{◌≡◌, ℕ, zero, suc, ◌+◌, ◌-◌, ◌==◌, cond, List, [], ◌++◌, length, Option, None, slice_get, count_by}
+use Rattle.std.specs.List.{range_with_len}
 use Rattle.guarded_update.specs.declared.request.Request.{Request as Asked}
 use Rattle.guarded_update.specs.Fitting.{IsRequest}
 use Rattle.guarded_update.specs.Spelling.{request_string}
 use Rattle.quorum.specs.declared.phase.Phase.{Phase}
 use Rattle.quorum.specs.declared.phase.Phase.TheVariants as phase
-use Rattle.ring_model.specs.Messages.{Ring, Letter, Packet, Message, Party, Member as AMember, Client as AClient, PrePrepare, Prepare, Commit, to_members}
+use Rattle.ring_model.specs.Messages.{Ring, Letter, Packet, Message, Member as AMember, PrePrepare, Prepare, Commit, to_members}
 use Rattle.ring_model.specs.Member.{order_at, endorsed, prepared, executed, newly}
 use Rattle.member_orders.specs.Told.{orders_told}
 use Rattle.member_orders.specs.Views as orders
 use Rattle.member_orders.specs.Standing as ordering
 use Rattle.ring_member.specs.declared.member.Member.{Member}
-use Rattle.ring_message.specs.declared.message.Out.{Out}
-use Rattle.message_model.specs.Meaning.{who}
 use Rattle.ring_member.specs.Views.{view_of}
 use Rattle.ring_member.specs.Standing.{has_letter, Stands}
 use Rattle.ring_member.specs.Told.{votes_told}
@@ -47,15 +45,6 @@ sent_to_members g i older got =
     cond (i == 0) (newly g (order_at g older) (order_at g got) (λ k r. to_members g (AMember i) (PrePrepare k r))) []
     ++ newly g (endorsed g older) (endorsed g got) (λ s r. to_members g (AMember i) (Prepare s (g.h r)))
     ++ newly g (prepared g older) (prepared g got) (λ s r. to_members g (AMember i) (Commit s (g.h r)))
-
--- a party is one of the ten members that a ring may have
-abbrev pub IsMember : Party → Type 0
-IsMember (AMember i) = i < 10
-IsMember (AClient c) = ⊥
-
--- each goes to a member
-abbrev pub AreToMembers : List Out → Type 0
-AreToMembers out = AllByRecursion (λ o. IsMember (who o.to)) out
 
 -- the entry at a place, counted from 1
 abbrev pub entry : {X : Type 0} → List X → ℕ → Option X

@@ -1,16 +1,11 @@
 -- What is newly owed to members.
-use Rattle.std.specs.Prelude.{ℕ, cond, List, [], ◌∷◌, ◌++◌, flat_map, Option, Some, None}
+use Rattle.std.specs.Prelude.{ℕ, cond, List, [], ◌∷◌, ◌++◌, flat_map}
 use Rattle.std.specs.List.{range_with_len}
 use Rattle.ring_model.specs.Messages.{Ring, Letter, Message, Prepare, Commit}
 use Rattle.ring_model.specs.Member.{endorsed, prepared}
 use Rattle.quorum.specs.declared.phase.Phase.TheVariants as phase
+use Rattle.member_orders.specs.Told.{news_of}
 use Rattle.ring_member.specs.Views.{View, is_order, is_voted}
-
--- what is told of something that is there and was not there before
-abbrev pub news_of : {X Y : Type 0} → Option X → Option X → (X → Y) → List Y
-news_of None None tell = []
-news_of None (Some x) tell = tell x ∷ []
-news_of (Some x) after tell = []
 
 -- the Prepares and the Commits that are owed after and were not before, by slot
 abbrev pub prepares_told : Ring → List Letter → List Letter → List Message

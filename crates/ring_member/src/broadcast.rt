@@ -4,7 +4,7 @@ ghost use Rattle.std.specs.List.{AllByRecursion};
 ghost use Rattle.ring_message.specs.Grammar.{MessageFits};
 ghost use Rattle.ring_model.specs.Messages.{Ring, to_members, Member as AMember};
 ghost use Rattle.message_model.specs.Meaning.{said, meaning, packet};
-ghost use Rattle.ring_member.specs.Members.{AreToMembers};
+ghost use Rattle.message_model.specs.Members.{AreToMembers};
 
 use bytes::Bytes;
 use pond_base::{MemberId, OutOfMemory, Party};

@@ -3,6 +3,7 @@ ghost use Rattle.std.specs.Prelude.{◌≡◌, ◌≤◌, ◌<◌, ◌+◌, List
 ghost use Rattle.ring_member.specs.Views.{view_of, endorsed_in, prepared_in, committed_in, ready_in, is_voted, Casts, Proposes, Hears, Executes, IsWhole};
 
 use bytes::Bytes;
+use pond_base::limits::MOST_SLOTS;
 use pond_base::{Items, MemberId, Name, OutOfMemory, Seq};
 use quorum::{Phase, Window};
 use std::alloc::Global;
@@ -126,7 +127,7 @@ impl Progress {
     /// Executes the next slot, where it can be, and answers whether it was.
     pub fn execute_next(&mut self) -> Result<bool, OutOfMemory>
         requires few { self.old.f ≤ 3 }
-        requires within { length self.old.done < 65536 }
+        requires within { length self.old.done < MOST_SLOTS }
         requires floor { self.old.votes.floor ≤ length self.old.done }
         ensures executed { IfOk result (λ is_executed. is_executed ≡ true
             → (request : List ℕ) × (ready_in self.old.f (view_of self.old) (length self.old.done + 1) ≡ Some request) × Executes (view_of self.old) request (view_of self.new)) }

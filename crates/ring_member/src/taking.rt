@@ -16,7 +16,8 @@ ghost use Rattle.member_orders.specs.Told.{orders_told};
 ghost use Rattle.member_orders.specs.Standing.{Stands as Ordered};
 ghost use Rattle.ring_member.specs.Standing.{request_of};
 ghost use Rattle.message_model.specs.Reading.{IsRingOf, asked_in};
-ghost use Rattle.ring_member.specs.Members.{vote_of, IsOwn, StandsFor, told, sent_to_members, AreToMembers};
+ghost use Rattle.ring_member.specs.Members.{vote_of, IsOwn, StandsFor, told, sent_to_members};
+ghost use Rattle.message_model.specs.Members.{AreToMembers};
 
 use crate::Member;
 use crate::broadcast::broadcast;
@@ -24,6 +25,7 @@ use crate::progress::Progress;
 use block_names::{Book, Hash160, NameFault};
 use bytes::Bytes;
 use member_orders::Orders;
+use pond_base::limits::{MOST_CLIENTS, MOST_FAULTY, MOST_SLOTS};
 use pond_base::{ClientId, Fields, Items, MemberId, Name, OutOfMemory, Party, Seq};
 use quorum::{Phase, Window};
 use ring_message::{Message, Out, read};
@@ -31,13 +33,13 @@ use std::alloc::Global;
 use std::collections::BTreeMap;
 
 // How many members a ring has at most.
-const MOST_MEMBERS: u8 = 10;
+const MOST_MEMBERS: u8 = 3 * MOST_FAULTY + 1;
 
 impl Member {
     /// A member that nothing was delivered to, of a ring that tolerates f faulty members. Takes no memory.
     pub fn new(alloc: Global, id: MemberId, f: u8) -> Member
-        requires { f ≤ 3 }
-        ensures { (g : Ring) → g.f ≡ f → g.slots ≡ 65536 → StandsFor g id.0 result [] }
+        requires { f ≤ MOST_FAULTY }
+        ensures { (g : Ring) → g.f ≡ f → g.slots ≡ MOST_SLOTS → StandsFor g id.0 result [] }
     {
         Member {
             alloc,
@@ -300,7 +302,7 @@ impl Member {
         number: u32,
         request: &Bytes,
     ) -> Result<Vec<Message>, OutOfMemory>
-        requires few { client.0 < 16 }
+        requires few { client.0 < MOST_CLIENTS }
         requires string { IsRequestString request.now }
         ensures stands { OnOk result ((g : Ring) (got : List Letter) → g.owner request.now ≡ client.0 → g.number request.now ≡ number → self.old.id.0 ≡ 0
             → Ordered g (view_of self.old.orders) got → Ordered g (view_of self.new.orders) (request_of g request.now ∷ got)) }

@@ -8,7 +8,8 @@ ghost use Rattle.message_model.specs.Meaning.{said};
 ghost use Rattle.vote_model.specs.Joins.{letter};
 ghost use Rattle.ring_member.specs.Views.{view_of, IsWhole};
 ghost use Rattle.ring_member.specs.Standing.{Live, Ran, Stands, order};
-ghost use Rattle.ring_member.specs.Told.{votes_told, news_of};
+ghost use Rattle.member_orders.specs.Told.{news_of};
+ghost use Rattle.ring_member.specs.Told.{votes_told};
 
 use crate::progress::Progress;
 use bytes::Bytes;

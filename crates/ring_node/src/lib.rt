@@ -14,10 +14,9 @@ ghost use Rattle.block_names.specs.Clashes.{AreHeld};
 ghost use Rattle.cow_tree.specs.Laws.{Keeps};
 ghost use Rattle.ring_model.specs.Messages.{Ring, Letter};
 ghost use Rattle.ring_model.specs.Member.{causes, executed as executed_by};
-ghost use Rattle.ring_model.specs.World.{IsParty};
 ghost use Rattle.message_model.specs.Meaning.{who, letter, packet};
-ghost use Rattle.message_model.specs.Reading.{IsRingOf};
 ghost use Rattle.ring_node.specs.Naming.{Namings, strings_for, IsSeat};
+ghost use Rattle.ring_node.specs.Standing.{ForLetters};
 
 use block_names::{Book, Hash160, NameFault};
 use bytes::Bytes;
@@ -42,21 +41,15 @@ pub trait Node: Drop {
         bytes: &Bytes,
     ) -> Result<Vec<Out>, NameFault>
         requires known { knows H.naming book.old.held self.old }
-        ensures stands { OnOk result ((g : Ring) (namings : Namings) (i : ℕ) (got : List Letter) → IsRingOf H.naming g → IsParty g (who from) → stands self.old g namings i got
-            → stands self.new g namings i (letter from bytes.now ∷ got)) }
-        ensures out { IfOk result (λ out. (g : Ring) (namings : Namings) (i : ℕ) (got : List Letter) → IsRingOf H.naming g → IsParty g (who from) → stands self.old g namings i got
-            → map (packet i) out.items ≡ causes g i got (letter from bytes.now ∷ got)) }
+        ensures stands { OnOk result (ForLetters H.naming (who from) (stands self.old) (λ g namings i got. stands self.new g namings i (letter from bytes.now ∷ got))) }
+        ensures out { IfOk result (λ out. ForLetters H.naming (who from) (stands self.old) (λ g namings i got. map (packet i) out.items ≡ causes g i got (letter from bytes.now ∷ got))) }
         ensures seats { IfOk result (λ out. AllByRecursion (λ o. IsSeat (who o.to)) out.items) }
         ensures known { OnOk result (knows H.naming book.new.held self.new) }
-        ensures held { OnOk result ((g : Ring) (namings : Namings) (i : ℕ) (got : List Letter) → IsRingOf H.naming g → IsParty g (who from) → stands self.old g namings i got
-            → book.new.held ≡ keep_all H.naming (strings_for g namings got (letter from bytes.now)) book.old.held) }
-        ensures all { OnOk result ((g : Ring) (namings : Namings) (i : ℕ) (got : List Letter) → IsRingOf H.naming g → IsParty g (who from) → stands self.old g namings i got
-            → AreHeld H.naming book.new.held (strings_for g namings got (letter from bytes.now))) }
+        ensures held { OnOk result (ForLetters H.naming (who from) (stands self.old) (λ g namings i got. book.new.held ≡ keep_all H.naming (strings_for g namings got (letter from bytes.now)) book.old.held)) }
+        ensures all { OnOk result (ForLetters H.naming (who from) (stands self.old) (λ g namings i got. AreHeld H.naming book.new.held (strings_for g namings got (letter from bytes.now)))) }
         ensures keeps { Keeps book.old.held book.new.held }
-        ensures grew { (g : Ring) (namings : Namings) (i : ℕ) (got : List Letter) → IsRingOf H.naming g → IsParty g (who from) → stands self.old g namings i got
-            → Grew H.naming book.old.held (Contains (strings_for g namings got (letter from bytes.now))) book.new.held }
-        ensures fault { IfErr result (λ fault. (g : Ring) (namings : Namings) (i : ℕ) (got : List Letter) → IsRingOf H.naming g → IsParty g (who from) → stands self.old g namings i got
-            → IsClashIn H.naming book.new.held (Contains (strings_for g namings got (letter from bytes.now))) fault) };
+        ensures grew { ForLetters H.naming (who from) (stands self.old) (λ g namings i got. Grew H.naming book.old.held (Contains (strings_for g namings got (letter from bytes.now))) book.new.held) }
+        ensures fault { IfErr result (λ fault. ForLetters H.naming (who from) (stands self.old) (λ g namings i got. IsClashIn H.naming book.new.held (Contains (strings_for g namings got (letter from bytes.now))) fault)) };
 
     /// How many requests it executed. Takes no memory.
     fn executed(&self) -> u32

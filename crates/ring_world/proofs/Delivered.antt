@@ -1,7 +1,7 @@
 -- Where nothing is pending, all was delivered.
-use Rattle.std.proofs.Common.{◌≡◌, ℕ, zero, suc, Bool, true, false, cond, not, ◌&&◌, ◌||◌, ◌==◌, List, [], ◌∷◌, ◌++◌, find, slice_get, Option, Some, None, Contains, refl, sym, ap, ap₂, ◌∙◌, subst, append-nil}
-use Rattle.std.specs.List.{AllByRecursion as Each, list_any}
-use Rattle.std.proofs.lemmas.Bool.{eqb-true, and_parts}
+use Rattle.std.proofs.Common.{◌≡◌, ℕ, zero, suc, Bool, true, false, cond, not, ◌&&◌, ◌||◌, ◌==◌, List, [], ◌∷◌, ◌++◌, find, slice_get, Option, Some, None, Contains, refl, sym, ap, ◌∙◌, subst, append-nil}
+use Rattle.std.specs.List.{AllByRecursion as Each}
+use Rattle.std.proofs.lemmas.Bool.{eqb-true, and_parts, or_from}
 use Rattle.std.proofs.lemmas.List.Elements.{filter-append}
 use Rattle.ring_model.specs.Messages.{Ring, Letter, Party as Who, Packet as Sent, Mark, Member as member, same_party}
 use Rattle.ring_model.specs.Member.{executed}
@@ -9,12 +9,12 @@ use Rattle.ring_model.specs.World.{World as Model, Event, Submit, Resubmit, Deli
 use Rattle.ring_model.specs.Laws.{IsHonest, AllDelivered}
 use Rattle.ring_model.proofs.History.{same_some, Each-weaker, Each-append, Each-at}
 use Rattle.ring_model.proofs.Lists.{there_first, there_later}
-use Rattle.ring_mail.specs.Places.{Place, placed, places, is_done, same_place, delivery}
+use Rattle.ring_mail.specs.Places.{Place, placed, places, is_done, same_place, delivery, is_due}
 use Rattle.ring_mail.proofs.Keeping.{same_party-true, delivery_there, delivery_none}
-use Rattle.ring_world.specs.declared.skips.Skips.{Skips}
-use Rattle.ring_world.specs.Skipping.{is_skipped, touches, stands_at}
-use Rattle.ring_world.specs.Deliveries.{deliveries, delivered_by, is_due, pending}
-use Rattle.ring_world.proofs.Settling.{place_leads}
+use Rattle.ring_mail.specs.Skips.{Skips, is_skipped}
+use Rattle.ring_world.specs.Skipping.{PassNothing}
+use Rattle.ring_world.specs.Deliveries.{deliveries, delivered_by, pending}
+use Rattle.ring_mail.proofs.Waiting.{place_leads}
 
 abbrev letter : Sent → Letter
 letter x = record { from = x.from; message = x.message }
@@ -165,5 +165,5 @@ all_delivered g skipped events none all =
         subst (λ (y : Sent). Contains ((world g events).got x.to) (letter y)) second
         (subst (λ p. Contains ((world g events).got p) (letter there.0)) (sym leads.3 ∙ ap (λ (y : Sent). y.to) same) there.2)
 
-pub none_skipped : (s : Skips) → s.muted.items ≡ [] → s.lost.items ≡ [] → (a : Place) → is_skipped s a ≡ false
-none_skipped s m l a = ap₂ (λ ps ns. touches ps a || list_any (stands_at a) ns) m l
+pub none_skipped : (s : Skips) → PassNothing s → (a : Place) → is_skipped s a ≡ false
+none_skipped s none a = or_from (s.muted a.from || s.muted a.to) (s.lost a) (or_from (s.muted a.from) (s.muted a.to) (none.0 a.from) (none.0 a.to)) (none.1 a)

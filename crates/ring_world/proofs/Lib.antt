@@ -3,7 +3,9 @@ pub mod Calls
 pub mod Correct
 pub mod Delivered
 pub mod Fits
+pub mod Limits
 pub mod Looking
+pub mod Nexts
 pub mod Order
 pub mod Requests
 pub mod Settling

@@ -1,9 +1,14 @@
 -- What look-ups find.
-use Rattle.std.proofs.Common.{◌≡◌, ℕ, zero, suc, ◌+◌, ◌*◌, ◌<◌, ◌≤◌, min, Bool, true, false, cond, not, ◌&&◌, List, [], ◌∷◌, ◌++◌, length, find, get_or, Some, None, option_map, sym, ap, ◌∙◌, subst, arith, length-append, append_assoc}
+use Rattle.std.proofs.Common.{◌≡◌, ℕ, zero, suc, ◌+◌, ◌*◌, ◌<◌, ◌≤◌, min, Bool, true, false, cond, not, ◌&&◌, List, [], ◌∷◌, ◌++◌, length, find, get_or, Some, None, option_map, Contains, ⊎_elim, sym, ap, ◌∙◌, subst, arith, length-append, append_assoc}
 use Rattle.std.specs.List.{AllByRecursion as Each}
-use Rattle.ring_model.specs.Messages.{Ring, Letter, Party as Who, Packet as Sent, same_party}
+use Rattle.ring_model.specs.Messages.{Ring, Letter, Party as Who, Packet as Sent, Member, same_party}
+use Rattle.ring_model.specs.Member.{executed}
+use Rattle.ring_model.specs.World.{Event, world, IsLegal, correct, chosen}
 use Rattle.ring_model.specs.Laws.{IsCorrect}
 use Rattle.ring_model.proofs.History.{same_some}
+use Rattle.ring_model.proofs.Lists.{there_none, Each-there}
+use Rattle.ring_model.proofs.Agreement.{only_submitted}
+use Rattle.ring_model.proofs.Chosen.{all_correct, longest_of}
 use Rattle.ring_node.specs.Naming.{Namings}
 use Rattle.ring_mail.specs.declared.kept.Mail.{Mail}
 use Rattle.ring_mail.specs.declared.kept.Note.{Note}
@@ -73,3 +78,14 @@ best_there stands g namings m got h none Y =
     let high : m.correct < 0 + (3 * g.f + 1) = omega (arith, right.0) in
     let wrong = none_correct g 0 (3 * g.f + 1) m.correct none low high in
     absurd (cc (wrong, right.1))
+
+-- ---- the committed list
+
+-- whatever is committed was asked for
+pub chosen_asked : (g : Ring) (events : List Event) → IsLegal g events → (string : List ℕ) → Contains (chosen g (world g events)) string → Contains (world g events).submits string
+chosen_asked g events legal string there =
+    ⊎_elim (λ none. absurd (there_none string (subst (λ strings. Contains strings string) none there)))
+    (λ some.
+    Each-there (Contains (world g events).submits) (executed g ((world g events).got (Member some.0))) string (only_submitted g events legal (Member some.0))
+    (subst (λ strings. Contains strings string) some.2 there))
+    (longest_of (IsCorrect g) (λ i. executed g ((world g events).got (Member i))) (correct g) (all_correct g))

@@ -10,6 +10,7 @@ use Rattle.std.proofs.lemmas.List.Elements.{filter-append}
 use Rattle.std.proofs.lemmas.List.Sums.{length-filter}
 use Rattle.block_names.specs.Held.{Held}
 use Rattle.block_names.specs.Growth.{Holds}
+use Rattle.tree_format.specs.Strings.{label_string}
 use Rattle.cow_tree.specs.Laws.{Keeps}
 use Rattle.guarded_update.specs.declared.update.Update.{Update}
 use Rattle.guarded_update.specs.declared.request.Request.{Request as Asking}
@@ -23,6 +24,8 @@ use Rattle.ring_model.proofs.Lists.{Each-there, there_filter}
 use Rattle.ring_model.proofs.Ordered.{all_numbered}
 use Rattle.message_model.specs.Meaning.{meaning}
 use Rattle.message_model.specs.Reading.{IsRingOf}
+use Rattle.message_model.specs.Requests.{request_at}
+use Rattle.message_model.proofs.Fields.{request_seam}
 use Rattle.client_core.specs.declared.client.Client.{Client}
 use Rattle.client_core.specs.Clients as core
 use Rattle.client_core.specs.Clients.{ClientStands, texts_of}
@@ -33,7 +36,7 @@ use Rattle.ring_mail.specs.Mails.{IsMail}
 use Rattle.ring_world.specs.declared.state.World.{World}
 use Rattle.ring_world.specs.Standing.{Standing, Knowing}
 use Rattle.ring_world.specs.Crew.{NodesKnown}
-use Rattle.ring_world.specs.Worlds.{IsWorld, WorldStands, IsKnown, next_request}
+use Rattle.ring_world.specs.Worlds.{IsWorld, WorldStands, IsKnown, IsNamed, LabelsHeld, next_request}
 use Rattle.ring_world.specs.Steps.{InOrder}
 use Rattle.ring_world.proofs.Telling.{of, each_set, client_at}
 
@@ -155,8 +158,9 @@ resubmitted stands g namings w v done c n text mail again posted h =
 -- ---- what a book knows
 
 -- strings that are held stay so
-held_still : (h : List ℕ → List ℕ) (held now : Held) → Keeps held now → (texts : List (List ℕ)) → Each (Holds h held) texts → Each (Holds h now) texts
-held_still h held now keeps texts is = Each-weaker (Holds h held) (Holds h now) (λ text e. keeps (h text) text e) texts is
+held_still : (h : List ℕ → List ℕ) (held now : Held) → Keeps held now → (texts : List (List ℕ)) → Each (IsNamed h held) texts → Each (IsNamed h now) texts
+held_still h held now keeps texts is =
+    Each-weaker (IsNamed h held) (IsNamed h now) (λ text e. (keeps (h text) text e.0, keeps (h (label_string (request_at text).label)) (label_string (request_at text).label) e.1)) texts is
 
 -- a book that grew knows a world with the same clients, and nodes that it knows
 pub known_still : {N : Type 0} (knows : Knowing N) (h : List ℕ → List ℕ) (held now : Held) (w new : World N) → new.clients ≡ w.clients → NodesKnown knows h now new.members → Keeps held now
@@ -164,49 +168,54 @@ pub known_still : {N : Type 0} (knows : Knowing N) (h : List ℕ → List ℕ) (
 known_still knows h held now w new same nodes keeps k =
     record {
       nodes = nodes;
-      requests = subst (λ (clients : Vec Client Global). (c : ℕ) (d : Client) → c < length clients.items → Each (Holds h now) (texts_of (get_or clients.items c d))) (sym same)
+      requests = subst (λ (clients : Vec Client Global). (c : ℕ) (d : Client) → c < length clients.items → Each (IsNamed h now) (texts_of (get_or clients.items c d))) (sym same)
           (λ c d low. held_still h held now keeps (texts_of (get_or w.clients.items c d)) (k.requests c d low));
     }
 
 -- and one with a client in another state, whose requests it holds
 pub known_more : {N : Type 0} (knows : Knowing N) (h : List ℕ → List ℕ) (held now : Held) (w : World N) (c : ℕ) (new : Client) (mail : Mail)
-    → ((node : N) → knows h held node → knows h now node) → Keeps held now → c < length w.clients.items → Each (Holds h now) (texts_of new)
+    → ((node : N) → knows h held node → knows h now node) → Keeps held now → c < length w.clients.items → Each (IsNamed h now) (texts_of new)
     → IsKnown knows h held w → IsKnown knows h now (record w { clients = with_item w.clients c new; mail = mail })
 known_more knows h held now w c new mail stays keeps low holds k =
     record {
       nodes = λ i n less. stays (get_or w.members.nodes.items i n) (k.nodes i n less);
       requests = λ j e less.
-          each_set (λ i x. Each (Holds h held) (texts_of x)) (λ i x. Each (Holds h now) (texts_of x)) w.clients.items c (length w.clients.items) new low holds
+          each_set (λ i x. Each (IsNamed h held) (texts_of x)) (λ i x. Each (IsNamed h now) (texts_of x)) w.clients.items c (length w.clients.items) new low holds
           (λ i x other is. held_still h held now keeps (texts_of x) is) k.requests j e (omega (arith, less, length-set w.clients.items c new));
     }
 
+-- a request that is held, with its label's string
+named_so : (h : List ℕ → List ℕ) (now : Held) (r : Asking) → IsRequest r → Holds h now (request_string r) → Holds h now (label_string r.label) → IsNamed h now (request_string r)
+named_so h now r is text label = (text, subst (λ (q : Asking). Holds h now (label_string q.label)) (sym (request_seam r is.places)) label)
+
 -- the strings of a client after one request more
-pub texts_more : (h : List ℕ → List ℕ) (held now : Held) (old new : Client) (text : List ℕ) → texts_of new ≡ texts_of old ++ text ∷ [] → Keeps held now → Holds h now text → Each (Holds h held) (texts_of old)
-    → Each (Holds h now) (texts_of new)
-texts_more h held now old new text is keeps holds old_held =
-    subst (Each (Holds h now)) (sym is) (Each-append (Holds h now) (texts_of old) (text ∷ []) (held_still h held now keeps (texts_of old) old_held) (holds, tt))
+pub texts_more : (h : List ℕ → List ℕ) (held now : Held) (old new : Client) (r : Asking) → texts_of new ≡ texts_of old ++ request_string r ∷ [] → Keeps held now → IsRequest r → Holds h now (request_string r) → Holds h now (label_string r.label)
+    → Each (IsNamed h held) (texts_of old) → Each (IsNamed h now) (texts_of new)
+texts_more h held now old new r is keeps allowed text label old_held =
+    subst (Each (IsNamed h now)) (sym is) (Each-append (IsNamed h now) (texts_of old) (request_string r ∷ []) (held_still h held now keeps (texts_of old) old_held) (named_so h now r allowed text label, tt))
 
 -- a client that submitted nothing has no strings
-pub none_held : (h : List ℕ → List ℕ) (held : Held) (one : Client) → length one.requests.items ≡ 0 → Each (Holds h held) (texts_of one)
+pub none_held : (h : List ℕ → List ℕ) (held : Held) (one : Client) → length one.requests.items ≡ 0 → Each (IsNamed h held) (texts_of one)
 none_held h held one none = empty (texts_of one) (length-map one.requests.items (λ asked. asked.text) ∙ none)
   where
-    empty : (texts : List (List ℕ)) → length texts ≡ 0 → Each (Holds h held) texts
+    empty : (texts : List (List ℕ)) → length texts ≡ 0 → Each (IsNamed h held) texts
     empty [] e = tt
     empty (text ∷ texts) e = absurd (omega (arith, e))
 
-some_item : {X : Type 0} (xs : List X) → 0 < length xs → X
+-- an item of a list that has one
+pub some_item : {X : Type 0} (xs : List X) → 0 < length xs → X
 some_item [] low = absurd (omega (arith, low))
 some_item (x ∷ xs) low = x
 
--- each submitted request is held
+-- each submitted request is held, with its label's string
 submits_held : {N : Type 0} (stands : Standing N) (knows : Knowing N) (h : List ℕ → List ℕ) (held : Held) (g : Ring) (namings : Namings) (w : World N) (events : List Event)
-    → IsKnown knows h held w → WorldStands stands g namings w events → (r : List ℕ) → Contains (world g events).submits r → Holds h held r
+    → IsKnown knows h held w → WorldStands stands g namings w events → (r : List ℕ) → Contains (world g events).submits r → IsNamed h held r
 submits_held stands knows h held g namings w events k s r there =
     let low : g.owner r < g.clients = Each-there (λ r. g.owner r < g.clients) (world g events).submits r (all_numbered g events s.legal).owners there in
     let mine = there_filter (of g (g.owner r)) (world g events).submits r there (eq-eqb (g.owner r) (g.owner r) refl) in
     let d : Client = some_item w.clients.items (omega (arith, low, s.is.client_count)) in
-    Each-there (Holds h held) (filter (of g (g.owner r)) (world g events).submits) r
-    (subst (Each (Holds h held)) (s.is.clients_stand (g.owner r) d low).requests (k.requests (g.owner r) d (omega (arith, low, s.is.client_count)))) mine
+    Each-there (IsNamed h held) (filter (of g (g.owner r)) (world g events).submits) r
+    (subst (Each (IsNamed h held)) (s.is.clients_stand (g.owner r) d low).requests (k.requests (g.owner r) d (omega (arith, low, s.is.client_count)))) mine
 
 -- no two of them have one name
 pub submits_apart : {N : Type 0} (stands : Standing N) (knows : Knowing N) (h : List ℕ → List ℕ) (held : Held) (g : Ring) (namings : Namings) (w : World N) (events : List Event)
@@ -215,4 +224,9 @@ submits_apart stands knows h held g namings w events ring k s a b one two same =
     let x = submits_held stands knows h held g namings w events k s a one in
     let y = submits_held stands knows h held g namings w events k s b two in
     let names : h a ≡ h b = sym (ring.names a) ∙ same ∙ ring.names b in
-    same_some a b (sym x ∙ ap (finmap.get held) names ∙ y)
+    same_some a b (sym x.0 ∙ ap (finmap.get held) names ∙ y.0)
+
+-- and the strings of their labels are held
+pub labels_held : {N : Type 0} (stands : Standing N) (knows : Knowing N) (h : List ℕ → List ℕ) (held : Held) (g : Ring) (namings : Namings) (w : World N) (events : List Event)
+    → IsKnown knows h held w → WorldStands stands g namings w events → LabelsHeld h held (world g events).submits
+labels_held stands knows h held g namings w events k s text there = (submits_held stands knows h held g namings w events k s text there).1

@@ -1,8 +1,8 @@
 -- One message handed to one party.
-use Rattle.std.proofs.Common.{◌≡◌, ◌&&◌, ℕ, ◌+◌, ◌-◌, ◌<◌, ◌≤◌, min, List, [], ◌∷◌, ◌++◌, length, map, take, drop, slice_get, get_or, Some, None, ⊎_elim, sym, ap, ap₂, ◌∙◌, subst, arith, append-nil, append_assoc, length-append, length-drop}
+use Rattle.std.proofs.Common.{◌≡◌, ◌&&◌, ℕ, zero, suc, refl, ◌+◌, ◌-◌, ◌<◌, ◌≤◌, min, List, [], ◌∷◌, ◌++◌, length, map, take, drop, slice_get, get_or, Some, None, ⊎_elim, sym, ap, ap₂, ◌∙◌, subst, arith, append-nil, append_assoc, length-append, length-drop}
 use Rattle.std.proofs.lemmas.Bool.{cases_lt}
 use Rattle.std.proofs.lemmas.List.{take_more, drop-append-le, drop-drop, drop-map, map-append, length-map}
-use Rattle.std.proofs.lemmas.Option.{slice_get_within}
+use Rattle.std.proofs.lemmas.Option.{slice_get_within, slice_get_past}
 use Rattle.circular_buffer.specs.Buffer.{Buffer, buffer, keep_last}
 use Rattle.ring_model.specs.Messages.{Ring, Party as Who, Packet as Sent, Member as member, Client as client, same_party}
 use Rattle.ring_model.specs.World.{World as Model, between, came, IsParty}
@@ -19,7 +19,8 @@ use Rattle.ring_world.specs.declared.state.World.{World}
 use Rattle.ring_world.specs.Standing.{Standing}
 use Rattle.ring_world.specs.Crew.{AreMembers, with_letter, owed_for}
 use Rattle.ring_world.specs.Skipping.{Told, told, counted}
-use Rattle.ring_world.specs.Worlds.{IsSmall, IsWorld}
+use Rattle.ring_world.specs.Steps.{IsDeclared}
+use Rattle.ring_world.specs.Worlds.{IsSmall, IsWorld, place_in}
 
 -- ---- posting
 
@@ -84,7 +85,7 @@ noted_last old new t a done is same h =
 -- no place is too great to be counted from 1
 pub all_few : (m : Mail) (sent : List Sent) (done : List Place) → IsMail m sent done → length sent ≤ 4294967295
 all_few m sent done h =
-    let size : length m.order.items ≡ length sent = sym (length-map m.order.items place_of) ∙ ap length h.order_is ∙ length-placed [] sent in
+    let size : length m.order.items ≡ length sent = sym (length-map m.order.items place_of) ∙ ap length h.kept.order_is ∙ length-placed [] sent in
     omega (arith, size, m.few)
 
 pub place_low : (m : Mail) (sent : List Sent) (done : List Place) (p q : Who) (k : ℕ) (x : Sent) → IsMail m sent done → Some x ≡ slice_get (between p q sent) k → min (k + 1) 4294967295 ≡ k + 1
@@ -157,8 +158,40 @@ delivered_none {N} stands g namings w v done mail p q k is posted h =
 pub posted_there : (m : Mail) (sent : List Sent) (done : List Place) (p q : Who) (k : ℕ) (x : Sent) → Some x ≡ slice_get (between p q sent) k → IsMail m sent (done ++ delivery sent (at_place p q k)) → IsMail m sent (done ++ at_place p q k ∷ [])
 posted_there m sent done p q k x is h = subst (λ ds. IsMail m sent (done ++ ds)) (delivery_there sent (at_place p q k) x (sym is)) h
 
+-- place 0 has no message
+nothing_behind : (sent : List Sent) (p q : Who) → slice_get (between p q sent) (length sent) ≡ None
+nothing_behind sent p q =
+    let short = filter-short (λ (x : Sent). same_party x.from p && same_party x.to q) sent in
+    slice_get_past (between p q sent) (length sent) short
+
+pub nothing_there : (sent : List Sent) (p q : Who) (k : ℕ) → k ≡ 0 → slice_get (between p q sent) (place_in sent k) ≡ None
+nothing_there sent p q k none = ap (λ n. slice_get (between p q sent) (place_in sent n)) none ∙ nothing_behind sent p q
+
+-- another place is one less
+pub place_less : (sent : List Sent) (k : ℕ) → (k ≡ 0 → ⊥) → place_in sent k ≡ k - 1
+place_less sent zero some = absurd (some refl)
+place_less sent (suc k) some = let less : k ≡ suc k - 1 = omega arith in less
+
+-- a delivery of place 0 changes nothing
+pub delivered_nothing : {N : Type 0} (stands : Standing N) (g : Ring) (namings : Namings) (w : World N) (v : Model) (done : List Place) (p q : Who) (k : ℕ) → k ≡ 0 → IsWorld stands g namings w v done
+    → IsWorld stands g namings w (came g v (slice_get (between p q v.sent) (place_in v.sent k))) (done ++ delivery v.sent (at_place p q (place_in v.sent k)))
+delivered_nothing stands g namings w v done p q k none h =
+    subst (λ o. IsWorld stands g namings w (came g v o) (done ++ delivery v.sent (at_place p q (place_in v.sent k)))) (sym gone)
+    (subst (IsWorld stands g namings w v) (sym same) h)
+  where
+    gone : slice_get (between p q v.sent) (place_in v.sent k) ≡ None
+    gone = nothing_there v.sent p q k none
+
+    same : done ++ delivery v.sent (at_place p q (place_in v.sent k)) ≡ done
+    same = ap (λ ds. done ++ ds) (delivery_none v.sent (at_place p q (place_in v.sent k)) gone) ∙ append-nil done
+
 -- ---- parties and seats
 
 pub party_seat : (g : Ring) (p : Who) → IsSmall g → IsParty g p → IsSeat p
 party_seat g (member i) small h = omega (arith, small.few, h)
 party_seat g (client c) small h = omega (arith, small.few_clients, h)
+
+-- a party of the world has a seat
+pub declared_seat : {N : Type 0} (w : World N) (p : Who) → IsDeclared w p → IsSeat p
+declared_seat w (member i) d = d.0
+declared_seat w (client c) d = d.0

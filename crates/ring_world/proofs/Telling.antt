@@ -12,7 +12,7 @@ use Rattle.ring_message.specs.declared.message.Out.{Out}
 use Rattle.message_model.specs.Meaning.{who, meaning}
 use Rattle.client_core.specs.declared.client.Client.{Client}
 use Rattle.client_core.specs.Clients.{ClientStands}
-use Rattle.client_core.specs.Sending.{IsMember}
+use Rattle.message_model.specs.Members.{IsMember}
 use Rattle.ring_node.specs.Naming.{Namings}
 use Rattle.ring_mail.specs.Places.{Place, packet_of}
 use Rattle.ring_mail.specs.Mails.{IsMail}

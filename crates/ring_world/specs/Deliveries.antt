@@ -1,11 +1,11 @@
 -- What was delivered, what is pending, and the deliveries of a settle.
-use Rattle.std.specs.Prelude.{ℕ, zero, suc, ◌<◌, ◌^◌, Bool, not, ◌&&◌, List, [], ◌∷◌, ◌++◌, find, slice_get, Option, Some, None, Contains}
+use Rattle.std.specs.Prelude.{ℕ, zero, suc, ◌<◌, ◌^◌, Bool, List, [], ◌∷◌, ◌++◌, find, slice_get, Option, Some, None, Contains}
 use Rattle.ring_message.specs.declared.message.Out.{Out}
 use Rattle.ring_model.specs.Messages.{Ring, Party, Packet}
 use Rattle.ring_model.specs.World.{World, Event, Deliver, world, between}
 use Rattle.message_model.specs.Meaning.{who, meaning}
 use Rattle.ring_node.specs.Naming.{Namings}
-use Rattle.ring_mail.specs.Places.{Place, places, is_done, delivery}
+use Rattle.ring_mail.specs.Places.{Place, places, is_due, delivery}
 use Rattle.ring_world.specs.Crew.{named_for}
 
 -- bytes that a party sends
@@ -20,9 +20,6 @@ delivered_by sent _ = []
 abbrev pub deliveries : Ring → List Event → List Place
 deliveries g [] = []
 deliveries g (e ∷ events) = deliveries g events ++ delivered_by (world g events).sent e
-
-abbrev pub is_due : (Place → Bool) → List Place → Place → Bool
-is_due skipped done a = not (is_done done a) && not (skipped a)
 
 -- the first message, in the order of sending, that was never delivered and is not skipped
 abbrev pub pending : Ring → (Place → Bool) → List Event → Option Place

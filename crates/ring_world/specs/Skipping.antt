@@ -1,11 +1,13 @@
--- Messages as a world tells of them: their parties, and their place counted from 1; and what a settle skips.
-use Rattle.std.specs.Prelude.{ℕ, ◌+◌, ◌==◌, ◌&&◌, ◌||◌, Bool, List}
+-- Messages as a world tells of them: their parties, and their place counted from 1; and what settles pass over.
+use Rattle.std.specs.Prelude.{◌≡◌, ℕ, false, ◌+◌, ◌==◌, ◌&&◌, ◌||◌, Bool, List}
 use Rattle.std.specs.List.{list_any}
 use Rattle.pond_base.specs.declared.numbers.Party.{Party}
 use Rattle.ring_model.specs.Messages.{Party as Who, same_party}
 use Rattle.message_model.specs.Meaning.{who}
 use Rattle.ring_mail.specs.Places.{Place}
-use Rattle.ring_world.specs.declared.skips.Skips.{Skips}
+use Rattle.ring_mail.specs.Skips as mail
+use Rattle.ring_mail.specs.Skips.{Skips}
+use Rattle.ring_world.specs.declared.state.World.{World}
 
 -- a message of this sender to this receiver, by its place from 1 on
 abbrev pub Told : Type 0
@@ -26,6 +28,10 @@ stands_at a t = same_party (who t.0) a.from && same_party (who t.1) a.to && t.2 
 abbrev pub touches : List Party → Place → Bool
 touches muted a = list_any (λ p. same_party (who p) a.from || same_party (who p) a.to) muted
 
--- messages from and to a muted party, and the lost ones
-abbrev pub is_skipped : Skips → Place → Bool
-is_skipped s a = touches s.muted.items a || list_any (stands_at a) s.lost.items
+-- what settles of a world pass over
+abbrev pub skips : {N : Type 0} → World N → Skips
+skips w = mail.skips w.mail
+
+-- nothing is passed over
+abbrev pub PassNothing : Skips → Type 0
+PassNothing skips = ((p : Who) → skips.muted p ≡ false) × ((a : Place) → skips.lost a ≡ false)

@@ -1,16 +1,16 @@
 -- What a step asks and answers.
 use Rattle.std.specs.Prelude.{◌≡◌, ◌≢◌, ℕ, ◌+◌, ◌-◌, ◌<◌, ◌≤◌, List, length, slice_index_or, slice_get, Bool, true, false, cond, is_some, Some, filter, ◌==◌, Result, Ok, Err, IsTrue}
+use Rattle.std.specs.List.{sum_by}
 use Rattle.std.specs.FinMap as map
 use Rattle.block_names.specs.Held.{Held}
 use Rattle.block_names.specs.Clashes.{AreClash}
 use Rattle.block_names.specs.declared.fault.StepFault.{StepFault}
 use Rattle.block_names.specs.declared.fault.StepFault.TheVariants.{Clash, Ended, Memory}
 use Rattle.guarded_update.specs.Fitting.{update_fits}
-use Rattle.ring_model.specs.Messages.{Ring, Member as member, Packet}
+use Rattle.ring_model.specs.Messages.{Ring, Party, Member as member, Client as client, Packet}
 use Rattle.ring_model.specs.World as model
 use Rattle.ring_model.specs.World.{World as Model, between, happens}
 use Rattle.message_model.specs.Meaning.{who}
-use Rattle.ring_mail.specs.Seats.{IsSeat}
 use Rattle.client_core.specs.declared.client.Client.{Client}
 use Rattle.ring_world.specs.declared.state.World.{World}
 use Rattle.ring_world.specs.declared.event.Event.{Event}
@@ -22,12 +22,28 @@ use Rattle.ring_world.specs.declared.said.Said.TheVariants.{Nothing, Sent}
 abbrev pub IsClient : {N : Type 0} → World N → ℕ → Type 0
 IsClient w c = (c < 16) × (c < length w.clients.items)
 
--- an update is within the limits and its client has a number left, a resubmitted number was submitted, places count from 1, and parties have seats
+-- a party of the world
+abbrev pub IsDeclared : {N : Type 0} → World N → Party → Type 0
+IsDeclared w (member i) = (i < 10) × (i < length w.members.nodes.items)
+IsDeclared w (client c) = IsClient w c
+
+-- an update is within the limits and its client has a number left, a resubmitted number was submitted, and parties are declared
 abbrev pub IsStep : {N : Type 0} → World N → Event → Type 0
 IsStep w (Submit c label update) = IsClient w c.0 × ((d : Client) → length (slice_index_or w.clients.items c.0 d).requests.items < 65536) × IsTrue (update_fits update)
 IsStep w (Resubmit c n) = IsClient w c.0 × (0 < n) × ((d : Client) → n ≤ length (slice_index_or w.clients.items c.0 d).requests.items)
-IsStep w (Deliver p q k) = 0 < k
-IsStep w (Forge i q bytes) = IsSeat (member i.0) × IsSeat (who q)
+IsStep w (Deliver p q k) = IsDeclared w (who p) × IsDeclared w (who q)
+IsStep w (Forge i q bytes) = IsDeclared w (member i.0) × IsDeclared w (who q)
+
+-- how many requests all clients submitted
+abbrev pub all_asked : {N : Type 0} → World N → ℕ
+all_asked w = sum_by (λ (c : Client). length c.requests.items) w.clients.items
+
+-- an event may come next: a step can do it, there is a slot for one request more, and a forger is faulty
+abbrev pub IsNext : {N : Type 0} → World N → Event → Type 0
+IsNext w (Submit c label update) = IsStep w (Submit c label update) × (all_asked w < 65536)
+IsNext w (Resubmit c n) = IsStep w (Resubmit c n)
+IsNext w (Deliver p q k) = IsStep w (Deliver p q k)
+IsNext w (Forge i q bytes) = IsStep w (Forge i q bytes) × ((d : Bool) → slice_index_or w.members.faulty.items i.0 d ≡ true)
 
 -- whether an event finds what it needs: a delivery its message
 abbrev pub is_there : Model → model.Event → Bool

@@ -1,5 +1,5 @@
 -- A world of nodes and clients, and the events that it stands for.
-use Rattle.std.specs.Prelude.{◌≡◌, ℕ, ◌+◌, ◌-◌, ◌*◌, ◌<◌, ◌≤◌, Bool, false, ◌==◌, List, [], ◌∷◌, map, filter, length, count_by, slice_get, slice_index_or}
+use Rattle.std.specs.Prelude.{◌≡◌, ℕ, zero, suc, ◌+◌, ◌*◌, ◌<◌, ◌≤◌, Bool, false, ◌==◌, List, [], ◌∷◌, map, filter, length, count_by, slice_get, slice_index_or, Contains}
 use Rattle.std.specs.List.{AllByRecursion}
 use Rattle.circular_buffer.specs.Buffer.{keep_last}
 use Rattle.block_names.specs.Held.{Held}
@@ -8,10 +8,11 @@ use Rattle.guarded_update.specs.declared.request.Request.{Request as Asking}
 use Rattle.guarded_update.specs.declared.update.Update.{Update}
 use Rattle.guarded_update.specs.Spelling.{request_string}
 use Rattle.tree_format.specs.Strings.{label_string}
-use Rattle.ring_model.specs.Messages.{Ring, Client as client}
+use Rattle.ring_model.specs.Messages.{Ring, Packet, Client as client}
 use Rattle.ring_model.specs.World as model
 use Rattle.ring_model.specs.World.{World as Model, world, IsLegal, MayHappen, between}
 use Rattle.message_model.specs.Meaning.{who, meaning}
+use Rattle.message_model.specs.Requests.{request_at}
 use Rattle.message_model.specs.Reading.{IsRingOf}
 use Rattle.client_core.specs.declared.client.Client.{Client}
 use Rattle.client_core.specs.Clients.{ClientStands, texts_of}
@@ -48,27 +49,40 @@ pub record WorldStands {N : Type 0} (stands : Standing N) (g : Ring) (namings : 
   pub is : IsWorld stands g namings w (world g events) (deliveries g events)
   pub legal : IsLegal g events
 
--- what is held has all that the world named: what its nodes named, and each submitted request
+-- a submitted request is held, and so is the string of its label
+abbrev pub IsNamed : (List ℕ → List ℕ) → Held → List ℕ → Type 0
+IsNamed h held text = Holds h held text × Holds h held (label_string (request_at text).label)
+
+-- the string of the label of each of these requests is held
+abbrev pub LabelsHeld : (List ℕ → List ℕ) → Held → List (List ℕ) → Type 0
+LabelsHeld h held submits = (text : List ℕ) → Contains submits text → Holds h held (label_string (request_at text).label)
+
+-- what is held has all that the world named: what its nodes named, and each submitted request with the string of its label
 pub record IsKnown {N : Type 0} (knows : Knowing N) (h : List ℕ → List ℕ) (held : Held) (w : World N) : Type 0 where
   pub nodes : NodesKnown knows h held w.members
-  pub requests : (c : ℕ) (d : Client) → c < length w.clients.items → AllByRecursion (Holds h held) (texts_of (slice_index_or w.clients.items c d))
+  pub requests : (c : ℕ) (d : Client) → c < length w.clients.items → AllByRecursion (IsNamed h held) (texts_of (slice_index_or w.clients.items c d))
 
 -- the client's next request, of this label and update
 abbrev pub next_request : Ring → Model → ℕ → List ℕ → Update → Asking
 next_request g v c label update = record { client = record { 0 = c }; number = count_by (λ r. g.owner r == c) v.submits + 1; label = label; update = update }
 
+-- a place counted from 1 is one less where it is counted from 0; place 0 has no message, as the one behind all that were sent
+abbrev pub place_in : List Packet → ℕ → ℕ
+place_in sent zero = length sent
+place_in sent (suc k) = k
+
 -- the event of the model, whose places count from 0
 abbrev pub event_of : Ring → Model → Event → model.Event
 event_of g v (Submit c label update) = model.Event.Submit (request_string (next_request g v c.0 label update))
 event_of g v (Resubmit c n) = model.Event.Resubmit c.0 n
-event_of g v (Deliver p q k) = model.Event.Deliver (who p) (who q) (k - 1)
+event_of g v (Deliver p q k) = model.Event.Deliver (who p) (who q) (place_in v.sent k)
 event_of g v (Forge i q bytes) = model.Event.Forge i.0 (who q) (meaning bytes)
 
 -- the strings that an event names: a submit the label's string and the request, a delivery those of its receiver
 abbrev pub strings_of : Ring → Namings → Model → Event → List (List ℕ)
 strings_of g namings v (Submit c label update) = label_string label ∷ request_string (next_request g v c.0 label update) ∷ []
 strings_of g namings v (Resubmit c n) = []
-strings_of g namings v (Deliver p q k) = named_of g namings v (slice_get (between (who p) (who q) v.sent) (k - 1))
+strings_of g namings v (Deliver p q k) = named_of g namings v (slice_get (between (who p) (who q) v.sent) (place_in v.sent k))
 strings_of g namings v (Forge i q bytes) = []
 
 -- whatever world of the model is kept, a fact holds of it

@@ -11,6 +11,7 @@ ghost use Rattle.message_model.specs.Meaning.{who, meaning};
 ghost use Rattle.ring_mail.specs.Places.{packet_of};
 ghost use Rattle.client_core.specs.Naming.{Names};
 ghost use Rattle.ring_world.specs.declared.event.Event.TheVariants.{Submit, Resubmit, Forge};
+ghost use Rattle.ring_world.specs.Skipping.{skips};
 ghost use Rattle.ring_world.specs.Steps.{IsStep, InOrder};
 ghost use Rattle.ring_world.specs.Worlds.{IsWorld, IsKnown, ForWorld, next_request};
 
@@ -34,6 +35,7 @@ impl<N: Node> World<N> {
         requires step { IsStep self.old (Submit client label update) }
         requires known { IsKnown N.knows H.naming book.old.held self.old }
         ensures going { self.new.ended ≡ self.old.ended }
+        ensures skips { skips self.new ≡ skips self.old }
         ensures known { OnOk result (IsKnown N.knows H.naming book.new.held self.new) }
         ensures keeps { Keeps book.old.held book.new.held }
         ensures ok { OnOk result (ForWorld N.stands H.naming self.old (λ g namings v done.
@@ -50,6 +52,7 @@ impl<N: Node> World<N> {
     pub(crate) fn resubmit(&mut self, client: ClientId, number: u32) -> Result<(), OutOfMemory>
         requires { IsStep self.old (Resubmit client number) }
         ensures going { self.new.ended ≡ self.old.ended }
+        ensures skips { skips self.new ≡ skips self.old }
         ensures known { (h : List ℕ → List ℕ) (held : Held) → IsKnown N.knows h held self.old → IsKnown N.knows h held self.new }
         ensures ok { OnOk result ((h : List ℕ → List ℕ) → ForWorld N.stands h self.old (λ g namings v done. InOrder g v.submits
             → IsWorld N.stands g namings self.new (happens g v (model.Event.Resubmit client.0 number)) done)) }
@@ -67,6 +70,7 @@ impl<N: Node> World<N> {
         bytes: &Bytes,
     ) -> Result<(), OutOfMemory>
         ensures going { self.new.ended ≡ self.old.ended }
+        ensures skips { skips self.new ≡ skips self.old }
         ensures known { (h : List ℕ → List ℕ) (held : Held) → IsKnown N.knows h held self.old → IsKnown N.knows h held self.new }
         ensures ok { OnOk result ((h : List ℕ → List ℕ) → ForWorld N.stands h self.old (λ g namings v done. IsParty g (who from)
             → IsWorld N.stands g namings self.new (came g v (Some (packet_of (who from) (party.Client to.0) bytes.now))) done)) }
@@ -87,6 +91,7 @@ impl<N: Node> World<N> {
     ) -> Result<(), OutOfMemory>
         requires { IsStep self.old (Forge member to bytes) }
         ensures going { self.new.ended ≡ self.old.ended }
+        ensures skips { skips self.new ≡ skips self.old }
         ensures known { (h : List ℕ → List ℕ) (held : Held) → IsKnown N.knows h held self.old → IsKnown N.knows h held self.new }
         ensures ok { OnOk result ((h : List ℕ → List ℕ) → ForWorld N.stands h self.old (λ g namings v done.
             IsWorld N.stands g namings self.new (happens g v (model.Event.Forge member.0 (who to) (meaning bytes))) done)) }

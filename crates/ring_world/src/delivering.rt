@@ -8,8 +8,10 @@ ghost use Rattle.message_model.specs.Meaning.{who};
 ghost use Rattle.ring_mail.specs.Seats.{IsSeat};
 ghost use Rattle.ring_mail.specs.Places.{Place, delivery, place_of, packet_of};
 ghost use Rattle.ring_mail.specs.Mails.{IsMail};
+ghost use Rattle.ring_mail.specs.Skips.{skips as mail_skips};
 ghost use Rattle.client_core.specs.Naming.{Names};
 ghost use Rattle.ring_world.specs.Deliveries.{named_of, packet_from};
+ghost use Rattle.ring_world.specs.Skipping.{skips};
 ghost use Rattle.ring_world.specs.Worlds.{IsWorld, IsKnown, ForWorld};
 
 use crate::state::World;
@@ -24,7 +26,8 @@ use ring_node::Node;
 pub(crate) fn post(mail: &mut Mail, from: Party, out: &[Out]) -> Result<(), OutOfMemory>
     requires seat { IsSeat (who from) }
     requires seats { AllByRecursion (λ o. IsSeat (who o.to)) out.now }
-    ensures { OnOk result ((sent : List Packet) (done : List Place) → IsMail mail.old sent done → IsMail mail.new (sent ++ map (packet_from (who from)) out.now) done) }
+    ensures mail { OnOk result ((sent : List Packet) (done : List Place) → IsMail mail.old sent done → IsMail mail.new (sent ++ map (packet_from (who from)) out.now) done) }
+    ensures skips { mail_skips mail.new ≡ mail_skips mail.old }
 {
     for one in out {
         mail.push(from, one.to, one.bytes.clone()?)?;
@@ -48,6 +51,7 @@ impl<N: Node> World<N> {
     ) -> Result<bool, NameFault>
         requires { IsKnown N.knows H.naming book.old.held self.old }
         ensures going { self.new.ended ≡ self.old.ended }
+        ensures skips { skips self.new ≡ skips self.old }
         ensures known { OnOk result (IsKnown N.knows H.naming book.new.held self.new) }
         ensures keeps { Keeps book.old.held book.new.held }
         ensures there { IfOk result (λ there. ForWorld N.stands H.naming self.old (λ g namings v done. IsParty g (who note.from) → IsParty g (who note.to)
@@ -78,6 +82,7 @@ impl<N: Node> World<N> {
     ) -> Result<(), NameFault>
         requires { IsKnown N.knows H.naming book.old.held self.old }
         ensures going { self.new.ended ≡ self.old.ended }
+        ensures skips { skips self.new ≡ skips self.old }
         ensures known { OnOk result (IsKnown N.knows H.naming book.new.held self.new) }
         ensures keeps { Keeps book.old.held book.new.held }
         ensures ok { OnOk result (ForWorld N.stands H.naming self.old (λ g namings v done. IsParty g (who from) → IsParty g (who to)
@@ -107,6 +112,7 @@ impl<N: Node> World<N> {
     ) -> Result<(), NameFault>
         requires { IsKnown N.knows H.naming book.old.held self.old }
         ensures going { self.new.ended ≡ self.old.ended }
+        ensures skips { skips self.new ≡ skips self.old }
         ensures known { OnOk result (IsKnown N.knows H.naming book.new.held self.new) }
         ensures keeps { Keeps book.old.held book.new.held }
         ensures ok { OnOk result (ForWorld N.stands H.naming self.old (λ g namings v done. IsParty g (who from) → IsParty g (member to.0)

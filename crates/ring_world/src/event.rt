@@ -18,7 +18,7 @@ pub enum Event {
         number: u32,
     },
     /// The message at this place, counted from 1, among those from the one party to the other in the
-    /// order of sending, is delivered.
+    /// order of sending, is delivered. At place 0 there is none.
     Deliver {
         from: Party,
         to: Party,

@@ -1,5 +1,5 @@
 // What a world tells.
-ghost use Rattle.std.specs.Prelude.{◌≡◌, ℕ, suc, ◌+◌, ◌-◌, ◌*◌, ◌<◌, ◌≤◌, ◌==◌, not, List, map, filter, find, count_by, length, slice_get, option_map, IfSome, is_some, Some, None, Contains};
+ghost use Rattle.std.specs.Prelude.{◌≡◌, ℕ, suc, false, ◌+◌, ◌-◌, ◌*◌, ◌<◌, ◌≤◌, ◌==◌, not, List, map, filter, find, count_by, length, slice_get, option_map, IfSome, is_some, Some, None, Contains};
 ghost use Rattle.std.specs.List.{AllByRecursion};
 ghost use Rattle.std.specs.Option.{option_copied};
 ghost use Rattle.circular_buffer.specs.Buffer.{keep_last};
@@ -12,10 +12,11 @@ ghost use Rattle.ring_node.specs.Naming.{Namings};
 ghost use Rattle.ring_mail.specs.Places.{Place, places, is_done};
 ghost use Rattle.ring_world.specs.Bests.{IsBest};
 ghost use Rattle.ring_world.specs.Bound.{PlacesFit};
-ghost use Rattle.ring_world.specs.Crew.{AreMembers};
+ghost use Rattle.block_names.specs.Held.{Held};
+ghost use Rattle.ring_world.specs.Crew.{AreMembers, NodesKnown};
 ghost use Rattle.ring_world.specs.Deliveries.{deliveries};
 ghost use Rattle.ring_world.specs.Skipping.{told, counted};
-ghost use Rattle.ring_world.specs.Worlds.{WorldStands, IsKnown, ForEvents};
+ghost use Rattle.ring_world.specs.Worlds.{WorldStands, IsKnown, LabelsHeld, ForEvents};
 
 use crate::delivering::told;
 use crate::members::Members;
@@ -78,7 +79,7 @@ impl<N: Node> World<N> {
 
     /// The member's node, and `None` exactly where it is faulty. What the member executed is a prefix of
     /// the committed list and was submitted, and what it holds for committed is prepared at f+1 correct
-    /// members. Takes no memory.
+    /// members. A book that knows the world knows the node. Takes no memory.
     pub fn node(&self, i: MemberId) -> Option<&N>
         ensures stands { IfSome result (λ node. (g : Ring) (namings : Namings) (events : List model.Event) → WorldStands N.stands g namings self.now events → i.0 < 3 * g.f + 1 → N.stands node.now g namings i.0 ((world g events).got (member i.0))) }
         ensures there { (g : Ring) (namings : Namings) (events : List model.Event) → WorldStands N.stands g namings self.now events → i.0 < 3 * g.f + 1 → is_some result ≡ not (g.is_faulty i.0) }
@@ -88,6 +89,7 @@ impl<N: Node> World<N> {
             → AllByRecursion (Contains (world g events).submits) (executed g ((world g events).got (member i.0))) }
         ensures held { (g : Ring) (namings : Namings) (events : List model.Event) → WorldStands N.stands g namings self.now events → FewFaulty g → NoClash g (world g events).submits → (s : ℕ) (r : List ℕ)
             → committed_at g ((world g events).got (member i.0)) s ≡ Some r → g.f + 1 ≤ count_by (is_held g (world g events) s r) (members g) }
+        ensures known { IfSome result (λ node. (h : List ℕ → List ℕ) (held : Held) → IsKnown N.knows h held self.now → N.knows h held node.now) }
     {
         agrees();
         only_submitted();
@@ -101,7 +103,7 @@ impl<N: Node> World<N> {
 
     /// The correct node whose executed list is the longest, the lowest of these: that of the committed
     /// list. Each request of the committed list was submitted, and is prepared in its slot at f+1
-    /// correct members. Takes no memory.
+    /// correct members. A book that knows the world knows the node. Takes no memory.
     pub fn committed(&self) -> &N
         ensures chosen { (g : Ring) (namings : Namings) (events : List model.Event) → WorldStands N.stands g namings self.now events
             → (i : ℕ) × IsCorrect g i × N.stands result.now g namings i ((world g events).got (member i)) × (executed g ((world g events).got (member i)) ≡ chosen g (world g events)) }
@@ -109,6 +111,7 @@ impl<N: Node> World<N> {
             → AllByRecursion (Contains (world g events).submits) (chosen g (world g events)) }
         ensures held { (g : Ring) (namings : Namings) (events : List model.Event) → WorldStands N.stands g namings self.now events → FewFaulty g → NoClash g (world g events).submits → (k : ℕ) (r : List ℕ)
             → slice_get (chosen g (world g events)) k ≡ Some r → g.f + 1 ≤ count_by (is_held g (world g events) (1 + k) r) (members g) }
+        ensures known { (h : List ℕ → List ℕ) (held : Held) → IsKnown N.knows h held self.now → N.knows h held result.now }
     {
         only_submitted();
         chosen_is_held();
@@ -117,16 +120,24 @@ impl<N: Node> World<N> {
 
     /// No two submitted requests have one name, where the book has what the world named. Does nothing.
     pub fn submits_apart<H: Hash160 + Drop>(&self, book: &Book<H>)
-        requires { IsKnown N.knows H.naming book.now.held self.now }
+        requires { self.now.ended ≡ false → IsKnown N.knows H.naming book.now.held self.now }
         ensures { ForEvents N.stands H.naming self.now (λ g namings events. NoClash g (world g events).submits) }
+    {}
+
+    /// The strings of the labels of all submitted requests are held, where the book has what the world
+    /// named. So no two of these labels have one name. Does nothing.
+    pub fn labels_held<H: Hash160 + Drop>(&self, book: &Book<H>)
+        requires { self.now.ended ≡ false → IsKnown N.knows H.naming book.now.held self.now }
+        ensures { ForEvents N.stands H.naming self.now (λ g namings events. LabelsHeld H.naming book.now.held (world g events).submits) }
     {}
 }
 
 impl<N: Node> Members<N> {
     // The node of the first of the longest executed lists.
     fn longest(&self) -> &N
-        ensures { (g : Ring) (namings : Namings) (got : Who → List Letter) → AreMembers N.stands g namings self.now got
+        ensures best { (g : Ring) (namings : Namings) (got : Who → List Letter) → AreMembers N.stands g namings self.now got
             → (i : ℕ) × IsCorrect g i × N.stands result.now g namings i (got (member i)) × IsBest g got 0 (3 * g.f + 1) (Some i) }
+        ensures known { (h : List ℕ → List ℕ) (held : Held) → NodesKnown N.knows h held self.now → N.knows h held result.now }
     {
         match self.best() {
             Some(best) => &self.nodes[best],

@@ -6,6 +6,7 @@ ghost use Rattle.ring_model.specs.Messages.{Ring};
 ghost use Rattle.ring_node.specs.Naming.{Namings};
 ghost use Rattle.client_core.specs.declared.client.Client.{Client};
 ghost use Rattle.client_core.specs.Clients.{ClientStands};
+ghost use Rattle.ring_world.specs.Skipping.{skips, PassNothing};
 ghost use Rattle.ring_world.specs.Worlds.{IsStart, IsKnown, WorldStands};
 
 use crate::crew::first_correct;
@@ -36,6 +37,7 @@ impl<N: Node> World<N> {
         ensures stands { IfOk result (λ world. (g : Ring) (namings : Namings) → IsStart N.stands g namings nodes.items faulty.items clients → WorldStands N.stands g namings world []) }
         ensures known { IfOk result (λ world. (h : List ℕ → List ℕ) (held : Held) → ((i : ℕ) (d : N) → i < length nodes.items → N.knows h held (slice_index_or nodes.items i d)) → IsKnown N.knows h held world) }
         ensures going { IfOk result (λ world. world.ended ≡ false) }
+        ensures skips { IfOk result (λ world. PassNothing (skips world)) }
     {
         let clients = clients_of(alloc, f, clients)?;
         let mail = Mail::new(alloc)?;

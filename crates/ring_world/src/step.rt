@@ -8,6 +8,7 @@ ghost use Rattle.ring_model.specs.Messages.{FewFaulty, Packet};
 ghost use Rattle.ring_model.specs.World.{world, chosen};
 ghost use Rattle.ring_model.specs.Laws.{IsPrefix, NoClash};
 ghost use Rattle.client_core.specs.Naming.{Names};
+ghost use Rattle.ring_world.specs.Skipping.{skips};
 ghost use Rattle.ring_world.specs.Steps.{IsStep, IsStepClash, IsStepClashAmong, Ends, is_there, said_by, said_of};
 ghost use Rattle.ring_world.specs.Worlds.{WorldStands, IsKnown, ForStep, event_of, strings_of};
 
@@ -29,6 +30,7 @@ impl<N: Node> World<N> {
         requires step { IsStep self.old event }
         requires known { IsKnown N.knows H.naming book.old.held self.old }
         ensures going { self.new.ended ≡ self.old.ended }
+        ensures skips { skips self.new ≡ skips self.old }
         ensures known { OnOk result (IsKnown N.knows H.naming book.new.held self.new) }
         ensures keeps { Keeps book.old.held book.new.held }
         ensures there { IfOk result (λ there. ForStep N.stands H.naming self.old event (λ g namings events. there ≡ is_there (world g events) (event_of g (world g events) event))) }
@@ -49,6 +51,9 @@ impl<N: Node> World<N> {
                 Ok(true)
             }
             Event::Deliver { from, to, place } => {
+                if place == 0 {
+                    return Ok(false);
+                }
                 let note = Note {
                     from,
                     to,
@@ -64,11 +69,11 @@ impl<N: Node> World<N> {
         }
     }
 
-    /// Does the next event. The caller keeps the list of events legal: parties are declared, a forger is
-    /// faulty, and a resubmitted number was submitted. `Ended` is answered exactly where an earlier call
-    /// answered another fault, and then nothing changes; after any other fault the world has ended. `Clash`
-    /// is answered only where two different strings of one name are among those that the book held and
-    /// those that the event names, and where two are, `Ok` is not.
+    /// Does the next event. The caller keeps the list of events legal: a forger is faulty, and no more
+    /// requests are submitted than there are slots, as [`World::may`] tells. `Ended` is answered exactly
+    /// where an earlier call answered another fault, and then nothing changes; after any other fault the
+    /// world has ended. `Clash` is answered only where two different strings of one name are among those
+    /// that the book held and those that the event names, and where two are, `Ok` is not.
     pub fn step<H: Hash160 + Drop>(
         &mut self,
         book: &mut Book<H>,
@@ -82,6 +87,7 @@ impl<N: Node> World<N> {
             → IsPrefix (chosen g (world g events)) (chosen g (world g (event_of g (world g events) event ∷ events))))) }
         ensures ends { Ends self.old self.new result }
         ensures known { OnOk result (IsKnown N.knows H.naming book.new.held self.new) }
+        ensures skips { skips self.new ≡ skips self.old }
         ensures keeps { Keeps book.old.held book.new.held }
         ensures spent { self.old.ended ≡ true → book.new ≡ book.old }
         ensures held { OnOk result (ForStep N.stands H.naming self.old event (λ g namings events. book.new.held ≡ keep_all H.naming (strings_of g namings (world g events) event) book.old.held)) }
@@ -105,6 +111,7 @@ impl<N: Node> World<N> {
     // Ends the world at a fault.
     pub(crate) fn end(&mut self, fault: NameFault) -> StepFault
         ensures ended { self.new.ended ≡ true }
+        ensures mail { self.new.mail ≡ self.old.mail }
         ensures fault { result ≡ step_fault fault }
     {
         self.ended = true;

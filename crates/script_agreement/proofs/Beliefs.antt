@@ -10,8 +10,8 @@ use Rattle.ring_model.specs.Messages.{Client, Mark, FewFaulty}
 use Rattle.ring_model.specs.World.{IsLegal, chosen}
 use Rattle.fold_model.specs.Laws.{IsAnswered}
 use Rattle.fold_model.proofs.Joined.{reply_is_outcome}
-use Rattle.belief_model.specs.Laws.{LabelsApartWith, IsVersionOf, versions_to}
-use Rattle.belief_model.proofs.Labels.{heart_is_of_label}
+use Rattle.fold_model.specs.LabelLaws.{LabelsApartWith, IsVersionOf, versions_to}
+use Rattle.fold_model.proofs.Labels.{heart_is_of_label}
 use Rattle.script_terms.specs.declared.script.Script.{Script}
 use Rattle.text_model.specs.Requests.{Numbered, submitted}
 use Rattle.text_model.specs.Blocks.{up_to}

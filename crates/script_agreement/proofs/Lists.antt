@@ -1,5 +1,5 @@
 -- The lists of a script's members, by the agreement of the ring.
-use Rattle.std.proofs.Common.{◌≡◌, ◌<◌, ◌*◌, ◌+◌, ℕ, List, [], ◌∷◌, ◌++◌, map, Contains, ⊎_elim, sym, ap, ◌∙◌, subst, arith}
+use Rattle.std.proofs.Common.{◌≡◌, ◌<◌, ◌*◌, ◌+◌, ℕ, List, [], ◌∷◌, ◌++◌, map, Contains, sym, ap, ◌∙◌, subst, arith}
 use Rattle.std.specs.List.{AllByRecursion as Each}
 use Rattle.guarded_update.specs.declared.request.Request.{Request}
 use Rattle.guarded_update.specs.Fitting.{IsRequest}
@@ -7,11 +7,10 @@ use Rattle.message_model.specs.Requests.{request_at}
 use Rattle.message_model.proofs.Fields.{request_seam}
 use Rattle.ring_model.specs.Messages.{Ring, Member, FewFaulty}
 use Rattle.ring_model.specs.Member.{executed}
-use Rattle.ring_model.specs.World.{Event, world, IsLegal, correct, chosen}
+use Rattle.ring_model.specs.World.{Event, world, IsLegal, chosen}
 use Rattle.ring_model.specs.Laws.{IsPrefix, NoClash, IsCorrect}
-use Rattle.ring_model.proofs.Lists.{there_none, Each-there}
-use Rattle.ring_model.proofs.Agreement.{only_submitted}
-use Rattle.ring_model.proofs.Chosen.{all_correct, longest_of, grows}
+use Rattle.ring_model.proofs.Lists.{Each-there}
+use Rattle.ring_model.proofs.Chosen.{grows}
 use Rattle.fold_model.specs.Folds.{requests_of}
 use Rattle.fold_model.specs.Growing.{requests-append}
 use Rattle.script_terms.specs.declared.script.Script.{Script}
@@ -21,6 +20,7 @@ use Rattle.text_model.specs.Executed.{committed_requests}
 use Rattle.script_names.proofs.Elements.{in_map, in_reverse}
 use Rattle.script_names.proofs.Worlds.{legal_behind, executed_chosen}
 use Rattle.script_names.proofs.Joined.{few_faulty}
+use Rattle.ring_world.proofs.Looking.{chosen_asked}
 use Rattle.script_agreement.specs.OneList.{EndsWith}
 use Rattle.script_agreement.specs.Laws.{ListsAreOne}
 use Rattle.script_agreement.proofs.Lines.{lines_add, lines_submit, lines_ask}
@@ -44,15 +44,6 @@ chosen_ends : (g : Ring) → FewFaulty g → (all events : List Event) → EndsW
 chosen_ends g few all events is legal clear =
     let head = grows g few is.0 events (subst (IsLegal g) is.1 legal) (subst (λ es. NoClash g (world g es).submits) is.1 clear) in
     head_ends (chosen g (world g events)) (chosen g (world g all)) (subst (λ es. IsPrefix (chosen g (world g events)) (chosen g (world g es))) (sym is.1) head)
-
--- whatever is committed was asked for
-chosen_asked : (g : Ring) (events : List Event) → IsLegal g events → (string : List ℕ) → Contains (chosen g (world g events)) string → Contains (world g events).submits string
-chosen_asked g events legal string there =
-    ⊎_elim (λ none. absurd (there_none string (subst (λ strings. Contains strings string) none there)))
-    (λ some.
-    Each-there (Contains (world g events).submits) (executed g ((world g events).got (Member some.0))) string (only_submitted g events legal (Member some.0))
-    (subst (λ strings. Contains strings string) some.2 there))
-    (longest_of (IsCorrect g) (λ i. executed g ((world g events).got (Member i))) (correct g) (all_correct g))
 
 -- ---- the lines
 

@@ -8,7 +8,7 @@ use Rattle.object_model.specs.Trees.{version_strings}
 use Rattle.ring_model.specs.Laws.{NoClash}
 use Rattle.ring_model.proofs.Lists.{there_map, there_flat}
 use Rattle.fold_model.specs.Folds.{requests_of}
-use Rattle.belief_model.specs.Laws.{LabelsApartWith}
+use Rattle.fold_model.specs.LabelLaws.{LabelsApartWith}
 use Rattle.script_terms.specs.declared.script.Script.{Script}
 use Rattle.text_model.specs.Requests.{Numbered}
 use Rattle.text_model.specs.Events.{ring_for, world_of}

@@ -1,7 +1,7 @@
 //! What the members of a script's ring execute is one list, and what its clients believe is of that
 //! list, as laws.
 //!
-//! `ring_model` says so of every legal list of events, and `belief_model` of the hearts of labels. Here
+//! `ring_model` says so of every legal list of events, and `fold_model` of the hearts of labels. Here
 //! it is said of the lines of a script that were run, in the words in which the script's text is
 //! defined: `IsOneList` and `BeliefsAreTrue` of the lines are what a reader of that text may rely on,
 //! whichever members are slow, muted or faulty. `text_model` has the events and the requests of lines,

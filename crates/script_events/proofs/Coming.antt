@@ -15,6 +15,7 @@ use Rattle.ring_model.specs.World as model
 use Rattle.message_model.specs.Meaning.{meaning, who}
 use Rattle.ring_world.specs.declared.event.Event.{Event}
 use Rattle.ring_world.specs.Worlds.{event_of}
+use Rattle.ring_world.proofs.Stepping.{place_less}
 use Rattle.ring_world.specs.Worlds as asking
 use Rattle.pond_world.specs.Coming.{MayCome}
 use Rattle.pond_world.proofs.Flags.{few_among}
@@ -94,8 +95,10 @@ line_comes h script earlier (Resubmit client number) e setup fits all is =
     subst (Comes h script earlier (with_events h (ring_for h script) earlier (events_of h script earlier) (Resubmit client number))) (sym is)
     ((fits.0, fits.1, omega (arith, fits.2, counts_join h script earlier all client, counts_are h earlier client)), refl)
 line_comes h script earlier (Deliver sender to place) e setup fits all is =
-    subst (Comes h script earlier (with_events h (ring_for h script) earlier (events_of h script earlier) (Deliver sender to place))) (sym is)
-    ((fits.2, party_in h script sender fits.0, party_in h script to fits.1), refl)
+    subst (Comes h script earlier (with_events h (ring_for h script) earlier (events_of h script earlier) (Deliver sender to place))) (sym is) (
+      (party_in h script sender fits.0, party_in h script to fits.1),
+      ap (λ k. model.Deliver (who sender) (who to) k ∷ events_of h script earlier) (sym (place_less (world_of h script earlier).sent place (λ none. absurd (omega (arith, none, fits.2))))),
+    )
 line_comes h script earlier (ForgeOrder member to seq client number) e setup fits all is = forged_comes h script earlier member to _ e setup fits.0 fits.1 is
 line_comes h script earlier (ForgePrepare member to seq client number) e setup fits all is = forged_comes h script earlier member to _ e setup fits.0 fits.1 is
 line_comes h script earlier (ForgeCommit member to seq client number) e setup fits all is = forged_comes h script earlier member to _ e setup fits.0 fits.1 is

@@ -1,31 +1,33 @@
 -- What deliveries name, the text names.
-use Rattle.std.proofs.Common.{◌≡◌, ◌≤◌, ◌+◌, ◌*◌, ◌-◌, ◌||◌, ℕ, Bool, List, [], ◌∷◌, ◌++◌, slice_get, Contains, ⊎_elim, refl, sym, ap₂, subst, arith}
-use Rattle.std.specs.List.{list_any}
+use Rattle.std.proofs.Common.{◌≡◌, ◌≤◌, ◌+◌, ◌*◌, ◌-◌, ◌||◌, ℕ, zero, suc, Bool, List, [], ◌∷◌, ◌++◌, slice_get, Contains, ⊎_elim, true, false, refl, sym, ap, ap₂, ◌∙◌, subst, arith}
+use Rattle.std.proofs.Math.Path.{fun_ext}
 use Rattle.std.proofs.lemmas.List.Elements.{Contains-append_left, Contains-append_right}
 use Rattle.pond_base.specs.declared.numbers.Party.{Party}
-use Rattle.ring_model.specs.Messages.{Member, FewFaulty}
+use Rattle.ring_model.specs.Messages.{Party as Who, Member, FewFaulty, same_party}
 use Rattle.ring_model.specs.Member.{executed}
 use Rattle.ring_model.specs.World.{World, Event, between, world, IsLegal, chosen}
 use Rattle.ring_model.specs.World as model
 use Rattle.ring_model.specs.Laws.{NoClash}
 use Rattle.ring_model.proofs.Chosen.{agrees}
+use Rattle.ring_model.proofs.Lists.{there_none}
 use Rattle.message_model.specs.Meaning.{who}
 use Rattle.fold_model.specs.Folds.{requests_of, namings_by}
 use Rattle.ring_mail.specs.Places.{Place}
 use Rattle.ring_world.specs.declared.event.Event.TheVariants as happening
-use Rattle.ring_world.specs.Deliveries.{settled, named_along}
-use Rattle.ring_world.specs.Skipping.{touches, stands_at}
+use Rattle.ring_world.specs.Deliveries.{settled, named_along, named_of}
+use Rattle.ring_world.specs.Skipping.{touches}
 use Rattle.ring_world.specs.Worlds.{strings_of}
 use Rattle.ring_world.proofs.Order.{came_submits}
+use Rattle.ring_world.proofs.Stepping.{nothing_there, place_less}
 use Rattle.pond_world.proofs.Flags.{few_among}
 use Rattle.script_terms.specs.declared.line.Line.{Line}
 use Rattle.script_terms.specs.declared.line.Line.TheVariants.{Deliver}
 use Rattle.script_terms.specs.declared.script.Script.{Script}
 use Rattle.script_limits.specs.Limits.{SetupFits}
 use Rattle.text_model.specs.Requests.{Numbered}
-use Rattle.text_model.specs.Events.{ring_for, is_passed, settled_by, most_messages, events_of, world_of}
+use Rattle.text_model.specs.Events.{ring_for, muted, lost, is_passed, settled_by, most_messages, events_of, world_of}
 use Rattle.text_model.specs.Named.{executed_strings, named}
-use Rattle.script_names.specs.Laws.{SettledIsReached, SettledJoins, SkipsJoin, AreOfLines, DeliveriesAreNamed, SettlesAreNamed, ExecutedAreNamed}
+use Rattle.script_names.specs.Laws.{SettledIsReached, SettledJoins, SkipsJoin, muted_in, lost_in, AreOfLines, DeliveriesAreNamed, SettlesAreNamed, ExecutedAreNamed}
 use Rattle.script_names.proofs.Settled.{reached, joins, settle_legal, settle_submits}
 use Rattle.script_names.proofs.Deliveries.{IsForeseen, all_foreseen}
 use Rattle.script_names.proofs.Folds.{IsSubmittedLabel, executed_head, accounted}
@@ -39,8 +41,25 @@ settled_is_reached g passed events n low = reached g passed events n most_messag
 pub settled_joins : SettledJoins
 settled_joins g passed events n low none = joins g passed events n most_messages low none
 
+or_pairs : (a b c d : Bool) → ((a || b) || (c || d)) ≡ ((a || c) || (b || d))
+or_pairs true b true d = refl
+or_pairs true b false d = refl
+or_pairs false true true d = refl
+or_pairs false true false d = refl
+or_pairs false false true d = refl
+or_pairs false false false d = refl
+
+-- one of the ends is among the parties, where one of the parties is an end
+ends_touch : (parties : List Party) (a : Place) → (muted_in parties a.from || muted_in parties a.to) ≡ touches parties a
+ends_touch [] a = refl
+ends_touch (p ∷ parties) a =
+    or_pairs (same_party (who p) a.from) (muted_in parties a.from) (same_party (who p) a.to) (muted_in parties a.to) ∙ ap (λ b. (same_party (who p) a.from || same_party (who p) a.to) || b) (ends_touch parties a)
+
 pub skips_join : SkipsJoin
-skips_join skips lines muted lost = ap₂ (λ parties told (place : Place). touches parties place || list_any (stands_at place) told) muted lost
+skips_join skips lines m l =
+    fun_ext
+    (λ (a : Place).
+    ap₂ (λ (is : Who → Bool) (lost : Place → Bool). (is a.from || is a.to) || lost a) m l ∙ ap (λ b. b || lost_in (lost lines) a) (ends_touch (muted lines) a))
 
 -- ---- strings
 
@@ -73,12 +92,16 @@ delivery_named : (h : List ℕ → List ℕ) (script : Script) (earlier : List N
     → IsLegal (ring_for h script) (events_of h script ((number, Deliver sender to place) ∷ earlier)) → NoClash (ring_for h script) (world_of h script ((number, Deliver sender to place) ∷ earlier)).submits
     → Contains (strings_of (ring_for h script) (namings_by h script.setup.block) (world_of h script earlier) (happening.Deliver sender to place)) s
     → Contains (named h script ((number, Deliver sender to place) ∷ earlier)) s
-delivery_named h script earlier number sender to place s fits are legal clear there =
+delivery_named h script earlier number sender to zero s fits are legal clear there =
+    absurd (there_none s (subst (λ o. Contains (named_of (ring_for h script) (namings_by h script.setup.block) (world_of h script earlier) o) s) (nothing_there (world_of h script earlier).sent (who sender) (who to) 0 refl) there))
+delivery_named h script earlier number sender to (suc place) s fits are legal clear there =
     let g = ring_for h script in
     let events = events_of h script earlier in
-    let event = model.Deliver (who sender) (who to) (place - 1) in
-    foreseen_named h script earlier (world g (event ∷ events)) are (came_submits g (world g events) (slice_get (between (who sender) (who to) (world g events).sent) (place - 1))) s
-    (all_foreseen g (namings_by h script.setup.block) (few_faulty h script fits) (event ∷ events) [] (event ∷ []) events refl legal clear s there)
+    let event = model.Deliver (who sender) (who to) (suc place - 1) in
+    let here = subst (λ k. Contains (named_of g (namings_by h script.setup.block) (world g events) (slice_get (between (who sender) (who to) (world g events).sent) k)) s)
+    (place_less (world g events).sent (suc place) (λ none. absurd (omega (arith, none)))) there in
+    foreseen_named h script earlier (world g (event ∷ events)) are (came_submits g (world g events) (slice_get (between (who sender) (who to) (world g events).sent) (suc place - 1))) s
+    (all_foreseen g (namings_by h script.setup.block) (few_faulty h script fits) (event ∷ events) [] (event ∷ []) events refl legal clear s here)
 
 pub deliveries_are_named : DeliveriesAreNamed
 deliveries_are_named h script earlier line sender to place string is fits are legal clear there =

@@ -1,19 +1,20 @@
 -- What is claimed of the strings that deliveries name. Lists of lines, events and requests have the newest first.
 use Rattle.std.specs.Prelude.{◌≡◌, ◌≤◌, ℕ, Bool, List, ◌∷◌, ◌++◌, map, reverse, Contains, None}
-use Rattle.std.specs.List.{AllByRecursion}
+use Rattle.std.specs.List.{AllByRecursion, list_any}
 use Rattle.pond_base.specs.declared.numbers.Party.{Party}
 use Rattle.guarded_update.specs.Fitting.{IsRequest}
 use Rattle.guarded_update.specs.Spelling.{request_string}
-use Rattle.ring_model.specs.Messages.{Ring, Member, FewFaulty}
+use Rattle.ring_model.specs.Messages.{Ring, Party as Who, Member, FewFaulty, same_party}
 use Rattle.ring_model.specs.Member.{executed}
 use Rattle.ring_model.specs.World.{Event, world, IsLegal, chosen}
 use Rattle.ring_model.specs.Laws.{NoClash, IsCorrect}
+use Rattle.message_model.specs.Meaning.{who}
 use Rattle.fold_model.specs.Folds.{requests_of, namings_by}
 use Rattle.ring_mail.specs.Places.{Place}
 use Rattle.ring_world.specs.declared.event.Event.TheVariants as happening
-use Rattle.ring_world.specs.declared.skips.Skips.{Skips}
+use Rattle.ring_mail.specs.Skips.{Skips, is_skipped}
+use Rattle.ring_world.specs.Skipping.{Told, stands_at}
 use Rattle.ring_world.specs.Deliveries.{pending, settled, named_along}
-use Rattle.ring_world.specs.Skipping.{is_skipped}
 use Rattle.ring_world.specs.Worlds.{strings_of}
 use Rattle.script_terms.specs.declared.line.Line.TheVariants.{Deliver, Settle}
 use Rattle.script_terms.specs.declared.script.Script.{Script}
@@ -34,9 +35,17 @@ abbrev pub SettledJoins : Type 0
 SettledJoins = (g : Ring) (passed : Place → Bool) (events : List Event) (n : ℕ) → n ≤ most_messages → pending g passed (settled g passed events n ++ events) ≡ None
     → settled_by g passed most_messages events ≡ settled g passed events n ++ events
 
+-- whether a party is one of these
+abbrev pub muted_in : List Party → Who → Bool
+muted_in parties p = list_any (λ q. same_party (who q) p) parties
+
+-- whether one of these messages stands at a place
+abbrev pub lost_in : List Told → Place → Bool
+lost_in told place = list_any (stands_at place) told
+
 -- With the same muted parties and lost messages, a world skips what a script passes over.
 abbrev pub SkipsJoin : Type 0
-SkipsJoin = (skips : Skips) (lines : List Numbered) → skips.muted.items ≡ muted lines → skips.lost.items ≡ lost lines → is_skipped skips ≡ is_passed lines
+SkipsJoin = (skips : Skips) (lines : List Numbered) → skips.muted ≡ muted_in (muted lines) → skips.lost ≡ lost_in (lost lines) → is_skipped skips ≡ is_passed lines
 
 -- ---- strings
 

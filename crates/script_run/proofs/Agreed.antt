@@ -4,7 +4,7 @@ use Rattle.std.specs.List.{AllByRecursion}
 use Rattle.guarded_update.specs.Spelling.{request_string}
 use Rattle.pond_world.specs.Sites.{SiteView}
 use Rattle.ring_model.specs.Laws.{NoClash}
-use Rattle.ring_world.specs.declared.skips.Skips.{Skips}
+use Rattle.ring_mail.specs.Skips.{Skips}
 use Rattle.script_agreement.specs.Laws.{ListsAreOne, BeliefsHold}
 use Rattle.script_agreement.specs.OneList.{IsOneList}
 use Rattle.script_agreement.specs.Beliefs.{BeliefsAreTrue}

@@ -1,10 +1,10 @@
 -- What clients believe after some lines, as a state has it.
-use Rattle.std.proofs.Common.{◌≡◌, ◌<◌, ◌+◌, ◌==◌, ℕ, List, Option, Result, IfOk, filter, map, length, reverse, sym, ◌∙◌, ap, subst, arith}
+use Rattle.std.proofs.Common.{◌≡◌, ◌<◌, ◌+◌, ◌==◌, ℕ, List, Option, Result, IfOk, filter, map, length, reverse, ◌∙◌, ap, arith}
 use Rattle.std.proofs.lemmas.List.Sums.{length-filter}
 use Rattle.std.proofs.lemmas.Result.{IfOk-weaker}
 use Rattle.pond_base.specs.declared.numbers.ClientId.{ClientId}
 use Rattle.pond_base.specs.declared.numbers.Version.{Version}
-use Rattle.ring_model.specs.Messages.{Ring, Letter, Client, Mark}
+use Rattle.ring_model.specs.Messages.{Ring, Letter}
 use Rattle.ring_model.specs.Belief.{believed, replied, heart_of}
 use Rattle.object_model.specs.Trees.{object_name}
 use Rattle.object_model.specs.Folds.{versions_after}
@@ -17,7 +17,7 @@ use Rattle.client_core.specs.Beliefs.{HeartsBelieved}
 use Rattle.client_core.specs.Clients.{ClientStands}
 use Rattle.client_core.specs.declared.client.Client.{Client as Kept}
 use Rattle.pond_world.specs.Sites.{SiteView}
-use Rattle.ring_world.specs.declared.skips.Skips.{Skips}
+use Rattle.ring_mail.specs.Skips.{Skips}
 use Rattle.script_terms.specs.declared.script.Script.{Script}
 use Rattle.script_terms.specs.declared.line.Line.TheVariants.{Read, ShowClient}
 use Rattle.script_limits.specs.Limits.{IsClient as IsDeclared}

@@ -4,7 +4,7 @@ use Rattle.pond_world.specs.Coming.{EventsMayCome}
 use Rattle.pond_world.specs.Sites.{SiteView}
 use Rattle.ring_model.specs.World.{MayHappen}
 use Rattle.ring_world.specs.declared.event.Event.{Event}
-use Rattle.ring_world.specs.declared.skips.Skips.{Skips}
+use Rattle.ring_mail.specs.Skips.{Skips}
 use Rattle.ring_world.specs.Conditions.{MayStep}
 use Rattle.ring_world.specs.Worlds.{event_of}
 use Rattle.script_events.specs.Laws.{RingIsSound, EventsComeOfLines}

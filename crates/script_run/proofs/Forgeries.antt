@@ -27,7 +27,7 @@ use Rattle.ring_model.specs.Messages.{Ring}
 use Rattle.ring_model.specs.World.{Event, world}
 use Rattle.ring_node.specs.Naming.{Namings}
 use Rattle.ring_world.specs.declared.event.Event.TheVariants as event
-use Rattle.ring_world.specs.declared.skips.Skips.{Skips}
+use Rattle.ring_mail.specs.Skips.{Skips}
 use Rattle.ring_world.specs.Worlds.{WorldStands}
 use Rattle.ring_world.specs.declared.state.World.{World}
 use Rattle.script_events.specs.Events.{IsEventOf}

@@ -1,5 +1,5 @@
 -- The labels of lines in order, with the names of their objects.
-use Rattle.std.proofs.Common.{◌≡◌, ◌⊎◌, ◌||◌, Ordering, Less, Equal, Greater, ◌<◌, zero, suc, length, get_or, inl, inr, ℕ, Bool, true, false, cond, List, [], ◌∷◌, ◌++◌, map, reverse, take, ◌+◌, slice_get, Option, Some, None, Contains, refl, sym, ap, ◌∙◌, subst, arith}
+use Rattle.std.proofs.Common.{◌≡◌, ◌||◌, Ordering, Less, Equal, Greater, ◌<◌, length, get_or, inl, inr, ℕ, Bool, true, false, cond, List, [], ◌∷◌, map, reverse, take, ◌+◌, slice_get, Some, Contains, refl, sym, ap, ◌∙◌, subst}
 use Rattle.std.specs.Ordering.{nat_cmp, is_eq, match_ordering}
 use Rattle.std.specs.Cmp.Lexicographic.{slice_cmp}
 use Rattle.std.specs.BTreeSet.{insert_key}

@@ -17,3 +17,4 @@ mod Requesting
 mod Forgeries
 mod Labelled
 mod Believing
+mod Faults

@@ -1,5 +1,6 @@
 -- What is named before the first line.
 use Rattle.std.proofs.Common.{◌≡◌, ◌<◌, ◌^◌, ℕ, List, [], ◌∷◌, ◌++◌, get_or, Contains, Result, Ok, Err, IfOk, refl, sym, ◌∙◌, subst, arith}
+use Rattle.std.proofs.Math.Path.{fun_ext}
 use Rattle.std.specs.FinMap as finite
 use Rattle.std.specs.List.{flat_map}
 use Rattle.std.proofs.lemmas.List.Elements.{All-contains, Contains-append_left, Contains-append_right}
@@ -19,7 +20,8 @@ use Rattle.pond_node.specs.declared.node.Node.{Node}
 use Rattle.pond_node.specs.Standing as node
 use Rattle.pond_node.specs.Standing.{NodeStands}
 use Rattle.pond_world.specs.Sites.{SiteView, IsClashAfter}
-use Rattle.ring_world.specs.declared.skips.Skips.{Skips}
+use Rattle.ring_mail.specs.Skips.{Skips}
+use Rattle.ring_world.specs.Skipping.{PassNothing}
 use Rattle.ring_world.specs.Worlds.{WorldStands, IsKnown}
 use Rattle.script_requests.specs.Holding.{HoldsAll, HoldsJust, IsClashOf}
 use Rattle.script_requests.proofs.Holds.{contains_first, all_named}
@@ -73,11 +75,11 @@ empty_held h script site i d one low folds known stands correct s c =
 -- the state before the first line
 pub stands_first : (h : List ℕ → List ℕ) (script : Script) (first now : SiteView) (skips : Skips) → WorldStands NodeStands (ring_for h script) (namings_for h script) first.world []
     → HoldsJust h first.held (version_strings h script.setup.block [] []) → now.world ≡ first.world
-    → ((strings : List (List ℕ)) → HoldsJust h first.held strings → HoldsJust h now.held (strings ++ flat_map label_strings script.lines)) → skips.muted.items ≡ [] → skips.lost.items ≡ [] → StandsFor h script [] now skips
-stands_first h script first now skips stands just same labels muted lost = record {
+    → ((strings : List (List ℕ)) → HoldsJust h first.held strings → HoldsJust h now.held (strings ++ flat_map label_strings script.lines)) → PassNothing skips → StandsFor h script [] now skips
+stands_first h script first now skips stands just same labels nothing = record {
   holds = labels (version_strings h script.setup.block [] []) just;
   stands = subst (λ world. WorldStands NodeStands (ring_for h script) (namings_for h script) world []) (sym same) stands;
-  muted_are = muted;
-  lost_are = lost;
+  muted_are = fun_ext nothing.0;
+  lost_are = fun_ext nothing.1;
   requests = tt;
 }

@@ -23,7 +23,7 @@ use Rattle.ring_world.specs.Conditions.{MayStep}
 use Rattle.ring_world.specs.Worlds.{WorldStands, event_of, strings_of}
 use Rattle.ring_world.specs.declared.event.Event.{Event}
 use Rattle.ring_world.specs.declared.event.Event.TheVariants as event
-use Rattle.ring_world.specs.declared.skips.Skips.{Skips}
+use Rattle.ring_mail.specs.Skips.{Skips}
 use Rattle.ring_world.specs.declared.state.World.{World}
 use Rattle.script_events.specs.Events.{IsEventOf}
 use Rattle.script_events.specs.Laws.{CountsJoin, EventsComeOfLines, RingIsSound}

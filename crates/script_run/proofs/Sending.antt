@@ -6,7 +6,7 @@ use Rattle.pond_node.specs.Standing.{NodeStands}
 use Rattle.pond_world.specs.Sites.{SiteView, IsClashAfter}
 use Rattle.ring_world.specs.declared.event.Event.{Event}
 use Rattle.ring_world.specs.declared.event.Event.TheVariants as wevent
-use Rattle.ring_world.specs.declared.skips.Skips.{Skips}
+use Rattle.ring_mail.specs.Skips.{Skips}
 use Rattle.ring_world.specs.Worlds.{WorldStands, strings_of}
 use Rattle.script_events.specs.Events.{IsEventOf}
 use Rattle.script_requests.specs.Holding.{HoldsJust, IsClashOf}

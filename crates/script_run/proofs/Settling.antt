@@ -11,10 +11,10 @@ use Rattle.ring_model.specs.World.{IsLegal}
 use Rattle.ring_model.specs.Laws.{NoClash}
 use Rattle.ring_model.proofs.Lists.{Each-from_there}
 use Rattle.ring_world.specs.declared.event.Event.TheVariants as wevent
-use Rattle.ring_world.specs.declared.skips.Skips.{Skips}
+use Rattle.ring_mail.specs.Skips.{Skips}
 use Rattle.ring_world.specs.Deliveries.{settled, named_along, IsNamedIn}
 use Rattle.ring_world.specs.Settles.{Settles}
-use Rattle.ring_world.specs.Skipping.{is_skipped}
+use Rattle.ring_mail.specs.Skips.{is_skipped}
 use Rattle.ring_world.specs.Worlds.{WorldStands, strings_of}
 use Rattle.script_events.specs.Laws.{SubmitsAreRequests}
 use Rattle.script_names.specs.Laws.{AreOfLines, DeliveriesAreNamed, SettlesAreNamed, SkipsJoin, SettledJoins}

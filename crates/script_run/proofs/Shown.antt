@@ -23,7 +23,7 @@ use Rattle.ring_node.specs.Naming.{Namings}
 use Rattle.pond_node.specs.declared.node.Node.{Node}
 use Rattle.pond_node.specs.Standing.{NodeStands}
 use Rattle.pond_world.specs.Sites.{SiteView}
-use Rattle.ring_world.specs.declared.skips.Skips.{Skips}
+use Rattle.ring_mail.specs.Skips.{Skips}
 use Rattle.ring_world.specs.declared.state.World.{World}
 use Rattle.ring_world.specs.Worlds.{WorldStands}
 use Rattle.script_terms.specs.declared.line.Line.{Line}

@@ -19,7 +19,7 @@ use Rattle.script_run.specs.declared.running.End.{End}
 use Rattle.script_run.specs.declared.running.End.TheVariants.{Done, WriteFault, Clash, Memory}
 use Rattle.script_run.specs.Ends.{Takes, Says, EndsAt, IsClear, written_at}
 use Rattle.pond_world.specs.Sites.{SiteView}
-use Rattle.ring_world.specs.declared.skips.Skips.{Skips}
+use Rattle.ring_mail.specs.Skips.{Skips}
 use Rattle.script_agreement.specs.Laws.{ListsAreOne, BeliefsHold}
 use Rattle.script_events.specs.Laws.{SubmitsAreRequests}
 use Rattle.script_limits.specs.Limits.{SetupFits}

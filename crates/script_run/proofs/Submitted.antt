@@ -14,7 +14,7 @@ use Rattle.object_model.specs.Trees.{version_strings}
 use Rattle.pond_base.specs.declared.numbers.ClientId.{ClientId}
 use Rattle.pond_node.specs.Standing.{NodeStands}
 use Rattle.pond_world.specs.Sites.{SiteView, IsClashAfter}
-use Rattle.ring_world.specs.declared.skips.Skips.{Skips}
+use Rattle.ring_mail.specs.Skips.{Skips}
 use Rattle.ring_world.specs.Worlds.{WorldStands}
 use Rattle.script_requests.specs.Holding.{HoldsAll, IsClashOf}
 use Rattle.script_requests.proofs.Holds.{all_both, all_one, part_within}

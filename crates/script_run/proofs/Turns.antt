@@ -6,7 +6,7 @@ use Rattle.std.proofs.lemmas.Option.{slice_get_cases, get_or_from_slice_get}
 use Rattle.guarded_update.specs.Fitting.{IsRequest}
 use Rattle.pond_node.specs.Standing.{NodeStands}
 use Rattle.pond_world.specs.Sites.{SiteView}
-use Rattle.ring_world.specs.declared.skips.Skips.{Skips}
+use Rattle.ring_mail.specs.Skips.{Skips}
 use Rattle.ring_world.specs.Worlds.{WorldStands}
 use Rattle.script_limits.specs.Limits.{LineFits, LinesFit}
 use Rattle.script_limits.specs.Turns.{LinesFitInTurn}
@@ -14,6 +14,7 @@ use Rattle.script_requests.specs.Holding.{HoldsJust}
 use Rattle.script_requests.proofs.Holds.{take_one_more}
 use Rattle.script_terms.specs.declared.line.Line.{Line}
 use Rattle.script_terms.specs.declared.script.Script.{Script}
+use Rattle.script_names.specs.Laws.{muted_in, lost_in}
 use Rattle.text_model.specs.Events.{ring_for, events_of, with_events, muted, muted_by, lost, lost_by}
 use Rattle.text_model.specs.Named.{named, line_strings}
 use Rattle.text_model.specs.Requests.{Numbered, submitted, with_line}
@@ -44,7 +45,7 @@ turn_fits fit h script at line site skips turn =
 pub next_from : (h : List ℕ → List ℕ) (script : Script) (at number : ℕ) (line : Line) (site : SiteView) (skips : Skips) → slice_get script.lines at ≡ Some (number, line)
     → HoldsJust h site.held (named h script (lines_before script at) ++ line_strings h script (lines_before script at) (number, line))
     → WorldStands NodeStands (ring_for h script) (namings_for h script) site.world (with_events h (ring_for h script) (lines_before script at) (events_of h script (lines_before script at)) line)
-    → skips.muted.items ≡ muted_by (muted (lines_before script at)) line → skips.lost.items ≡ lost_by (lost (lines_before script at)) line
+    → skips.muted ≡ muted_in (muted_by (muted (lines_before script at)) line) → skips.lost ≡ lost_in (lost_by (lost (lines_before script at)) line)
     → AllByRecursion IsRequest (with_line h (submitted h (lines_before script at)) line) → StandsNext h script at site skips
 next_from h script at number line site skips here holds stands muted_are lost_are requests =
     subst (λ lines. StandsFor h script lines site skips) (sym (lines_more script at (number, line) here)) (record {
@@ -60,13 +61,14 @@ pub holds_still : (h : List ℕ → List ℕ) (site : SiteView) (strings : List 
 holds_still h site strings holds = subst (HoldsJust h site.held) (sym (append-nil strings)) holds
 
 -- a line that is no event
-pub next_same : (h : List ℕ → List ℕ) (script : Script) (at : ℕ) (line : Line) (site : SiteView) (skips left : Skips) → (turn : IsTurn h script at line site skips)
+pub next_same : (h : List ℕ → List ℕ) (script : Script) (at : ℕ) (line : Line) (site now : SiteView) (skips left : Skips) → (turn : IsTurn h script at line site skips)
     → line_strings h script (lines_before script at) (turn.number, line) ≡ [] → with_events h (ring_for h script) (lines_before script at) (events_of h script (lines_before script at)) line ≡ events_of h script (lines_before script at)
-    → with_line h (submitted h (lines_before script at)) line ≡ submitted h (lines_before script at)
-    → left.muted.items ≡ muted_by (muted (lines_before script at)) line → left.lost.items ≡ lost_by (lost (lines_before script at)) line → StandsNext h script at site left
-next_same h script at line site skips left turn none still same muted_are lost_are =
+    → with_line h (submitted h (lines_before script at)) line ≡ submitted h (lines_before script at) → now.held ≡ site.held
+    → WorldStands NodeStands (ring_for h script) (namings_for h script) now.world (events_of h script (lines_before script at))
+    → left.muted ≡ muted_in (muted_by (muted (lines_before script at)) line) → left.lost ≡ lost_in (lost_by (lost (lines_before script at)) line) → StandsNext h script at now left
+next_same h script at line site now skips left turn none still same kept stands muted_are lost_are =
     let earlier = lines_before script at in
-    next_from h script at turn.number line site left turn.here
-    (subst (λ ss. HoldsJust h site.held (named h script earlier ++ ss)) (sym none) (holds_still h site (named h script earlier) turn.stands.holds))
-    (subst (WorldStands NodeStands (ring_for h script) (namings_for h script) site.world) (sym still) turn.stands.stands) muted_are lost_are
+    next_from h script at turn.number line now left turn.here
+    (subst (λ ss. HoldsJust h now.held (named h script earlier ++ ss)) (sym none) (subst (λ held. HoldsJust h held (named h script earlier ++ [])) (sym kept) (holds_still h site (named h script earlier) turn.stands.holds)))
+    (subst (WorldStands NodeStands (ring_for h script) (namings_for h script) now.world) (sym still) stands) muted_are lost_are
     (subst (AllByRecursion IsRequest) (sym same) turn.stands.requests)

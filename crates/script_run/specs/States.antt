@@ -15,7 +15,7 @@ use Rattle.pond_node.specs.Standing.{NodeStands}
 use Rattle.ring_node.specs.Naming.{Namings}
 use Rattle.ring_world.specs.declared.event.Event.{Event}
 use Rattle.ring_world.specs.declared.event.Event.TheVariants as wevent
-use Rattle.ring_world.specs.declared.skips.Skips.{Skips}
+use Rattle.ring_mail.specs.Skips.{Skips}
 use Rattle.ring_world.specs.Worlds.{WorldStands}
 use Rattle.pond_world.specs.Sites.{SiteView}
 use Rattle.script_terms.specs.declared.line.Line.{Line}
@@ -24,6 +24,7 @@ use Rattle.script_terms.specs.declared.script.Script.{Script}
 use Rattle.script_limits.specs.Limits.{IsWithin}
 use Rattle.script_requests.specs.Holding.{HoldsJust}
 use Rattle.script_events.specs.Events.{IsEventOf}
+use Rattle.script_names.specs.Laws.{muted_in, lost_in}
 use Rattle.text_model.specs.Events.{ring_for, world_of, events_of, muted, lost, asked_string}
 use Rattle.text_model.specs.Named.{named}
 use Rattle.text_model.specs.Requests.{Numbered, submitted}
@@ -37,8 +38,8 @@ namings_for h script = namings_by h script.setup.block
 pub record StandsFor (h : List ℕ → List ℕ) (script : Script) (lines : List Numbered) (site : SiteView) (skips : Skips) : Type 0 where
   pub holds : HoldsJust h site.held (named h script lines)
   pub stands : WorldStands NodeStands (ring_for h script) (namings_for h script) site.world (events_of h script lines)
-  pub muted_are : skips.muted.items ≡ muted lines
-  pub lost_are : skips.lost.items ≡ lost lines
+  pub muted_are : skips.muted ≡ muted_in (muted lines)
+  pub lost_are : skips.lost ≡ lost_in (lost lines)
   pub requests : AllByRecursion IsRequest (submitted h lines)
 
 -- the lines before a place

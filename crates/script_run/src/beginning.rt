@@ -4,6 +4,7 @@ ghost use Rattle.std.specs.List.{flat_map};
 ghost use Rattle.std.specs.Ordering.{nat_cmp};
 ghost use Rattle.std.specs.Cmp.Lexicographic.{slice_cmp};
 ghost use Rattle.std.specs.BTreeMap.{insert_entry};
+ghost use Rattle.ring_world.specs.Skipping.{skips};
 ghost use Rattle.script_limits.specs.Limits.{IsWithin};
 ghost use Rattle.object_model.specs.Trees.{object_name, version_strings};
 ghost use Rattle.pond_node.specs.Standing.{NodeStands};
@@ -22,7 +23,6 @@ use block_names::{Hash160, NameFault};
 use fold_model::ring_folds;
 use pond_base::Label;
 use pond_world::Site;
-use ring_world::Skips;
 use script_events::setups_join;
 use script_terms::{Line, Script};
 use std::alloc::Global;
@@ -38,19 +38,15 @@ impl<H: Hash160 + Drop> State<H> {
         hash: H,
     ) -> Result<(State<H>, Labels), NameFault>
         requires { IsWithin script.now }
-        ensures stands { IfOk result (λ first. StandsFor H.naming script.now [] first.0.site first.0.skips) }
+        ensures stands { IfOk result (λ first. StandsFor H.naming script.now [] first.0.site (skips first.0.site.world)) }
         ensures labels { IfOk result (λ first. AreLabels H.naming first.1.entries (reverse script.now.lines)) }
         ensures fault { IfErr result (IsClashOf H.naming (start_strings H.naming script.now)) }
     {
         setups_join();
-        let site = Site::open(alloc, hash, &script.setup)?;
+        let mut site = Site::open(alloc, hash, &script.setup)?;
         holds_empty(&site, script);
-        let (site, labels) = with_labels(alloc, site, script.lines.as_slice())?;
-        let skips = Skips {
-            muted: Vec::new(alloc),
-            lost: Vec::new(alloc),
-        };
-        Ok((State { alloc, site, skips }, labels))
+        let labels = name_labels(alloc, &mut site, script.lines.as_slice())?;
+        Ok((State { alloc, site }, labels))
     }
 }
 
@@ -63,60 +59,59 @@ fn holds_empty<H: Hash160 + Drop>(site: &Site<H>, script: &Script)
     let _objects = site.world().committed().objects();
 }
 
-// With the label strings of events named, and the labels.
-fn with_labels<H: Hash160 + Drop>(
+// Names the label strings of events, and gives the labels.
+fn name_labels<H: Hash160 + Drop>(
     alloc: Global,
-    site: Site<H>,
+    site: &mut Site<H>,
     lines: &[(u32, Line)],
-) -> Result<(Site<H>, Labels), NameFault>
-    ensures world { IfOk result (λ now. now.0.world ≡ site.world) }
-    ensures holds { IfOk result (λ now. (strings : List (List ℕ)) → HoldsJust H.naming site.held strings → HoldsJust H.naming now.0.held (strings ++ flat_map label_strings lines.now)) }
-    ensures labels { IfOk result (λ now. AreLabels H.naming now.1.entries (reverse lines.now)) }
-    ensures fault { IfErr result (λ fault. (strings : List (List ℕ)) → HoldsJust H.naming site.held strings → IsClashOf H.naming (strings ++ flat_map label_strings lines.now) fault) }
+) -> Result<Labels, NameFault>
+    ensures world { site.new.world ≡ site.old.world }
+    ensures holds { OnOk result ((strings : List (List ℕ)) → HoldsJust H.naming site.old.held strings → HoldsJust H.naming site.new.held (strings ++ flat_map label_strings lines.now)) }
+    ensures labels { IfOk result (λ labels. AreLabels H.naming labels.entries (reverse lines.now)) }
+    ensures fault { IfErr result (λ fault. (strings : List (List ℕ)) → HoldsJust H.naming site.old.held strings → IsClashOf H.naming (strings ++ flat_map label_strings lines.now) fault) }
 {
-    let mut named = site;
     let mut labels = BTreeMap::new(alloc);
     for (_, line) in lines {
-        named = with_label(alloc, named, &mut labels, line)?;
+        name_label_of(alloc, site, &mut labels, line)?;
     }
-    Ok((named, labels))
+    Ok(labels)
 }
 
-fn with_label<H: Hash160 + Drop>(
+fn name_label_of<H: Hash160 + Drop>(
     alloc: Global,
-    site: Site<H>,
+    site: &mut Site<H>,
     labels: &mut Labels,
     line: &Line,
-) -> Result<Site<H>, NameFault>
-    ensures world { IfOk result (λ now. now.world ≡ site.world) }
-    ensures holds { IfOk result (λ now. (number : ℕ) (strings : List (List ℕ)) → HoldsJust H.naming site.held strings → HoldsJust H.naming now.held (strings ++ label_strings (number, line.now))) }
+) -> Result<(), NameFault>
+    ensures world { site.new.world ≡ site.old.world }
+    ensures holds { OnOk result ((number : ℕ) (strings : List (List ℕ)) → HoldsJust H.naming site.old.held strings → HoldsJust H.naming site.new.held (strings ++ label_strings (number, line.now))) }
     ensures labels { OnOk result ((number : ℕ) (lines : List Numbered) → AreLabels H.naming labels.old.entries lines → AreLabels H.naming labels.new.entries ((number, line.now) ∷ lines)) }
-    ensures fault { IfErr result (λ fault. (number : ℕ) (strings : List (List ℕ)) → HoldsJust H.naming site.held strings → IsClashOf H.naming (strings ++ label_strings (number, line.now)) fault) }
+    ensures fault { IfErr result (λ fault. (number : ℕ) (strings : List (List ℕ)) → HoldsJust H.naming site.old.held strings → IsClashOf H.naming (strings ++ label_strings (number, line.now)) fault) }
 {
     match line {
-        Line::Submit { label, .. } => with_label_named(alloc, site, labels, label),
-        Line::ForgeHeart { label, .. } => with_label_named(alloc, site, labels, label),
-        Line::Read { label, .. } => with_label_named(alloc, site, labels, label),
-        Line::ShowVersion { label, .. } => with_label_named(alloc, site, labels, label),
-        _ => Ok(site),
+        Line::Submit { label, .. } => name_label(alloc, site, labels, label),
+        Line::ForgeHeart { label, .. } => name_label(alloc, site, labels, label),
+        Line::Read { label, .. } => name_label(alloc, site, labels, label),
+        Line::ShowVersion { label, .. } => name_label(alloc, site, labels, label),
+        _ => Ok(()),
     }
 }
 
-fn with_label_named<H: Hash160 + Drop>(
+fn name_label<H: Hash160 + Drop>(
     alloc: Global,
-    site: Site<H>,
+    site: &mut Site<H>,
     labels: &mut Labels,
     label: &Label,
-) -> Result<Site<H>, NameFault>
-    ensures world { IfOk result (λ now. now.world ≡ site.world) }
-    ensures holds { IfOk result (λ now. (strings : List (List ℕ)) → HoldsJust H.naming site.held strings → HoldsJust H.naming now.held (strings ++ label_string label.now ∷ [])) }
+) -> Result<(), NameFault>
+    ensures world { site.new.world ≡ site.old.world }
+    ensures holds { OnOk result ((strings : List (List ℕ)) → HoldsJust H.naming site.old.held strings → HoldsJust H.naming site.new.held (strings ++ label_string label.now ∷ [])) }
     ensures labels { OnOk result (labels.new.entries ≡ insert_entry (slice_cmp nat_cmp) labels.old.entries label.now (object_name H.naming label.now)) }
-    ensures fault { IfErr result (λ fault. (strings : List (List ℕ)) → HoldsJust H.naming site.held strings → IsClashOf H.naming (strings ++ label_string label.now ∷ []) fault) }
+    ensures fault { IfErr result (λ fault. (strings : List (List ℕ)) → HoldsJust H.naming site.old.held strings → IsClashOf H.naming (strings ++ label_string label.now ∷ []) fault) }
 {
     let string = write_label(alloc, label)?;
-    let (site, name) = site.name(string.as_slice())?;
+    let name = site.name(string.as_slice())?;
     let Ok(_) = labels.insert(*label, name) else {
         return Err(NameFault::Memory);
     };
-    Ok(site)
+    Ok(())
 }

@@ -1,9 +1,12 @@
 // Lines that are events of the world.
-ghost use Rattle.std.specs.Prelude.{◌≡◌, ◌+◌, ◌<◌, length, reverse, Contains, IfOk, IfErr};
+ghost use Rattle.std.specs.Prelude.{◌≡◌, ◌≢◌, ◌+◌, ◌<◌, length, reverse, Contains, IfOk, IfErr};
+ghost use Rattle.block_names.specs.Faults.{step_fault};
 ghost use Rattle.block_names.specs.Growth.{Grew};
+ghost use Rattle.block_names.specs.declared.fault.StepFault.TheVariants.{Ended};
 ghost use Rattle.pond_node.specs.Standing.{NodeStands};
 ghost use Rattle.pond_world.specs.Sites.{IsClashAfter};
 ghost use Rattle.ring_world.specs.Worlds.{WorldStands, strings_of};
+ghost use Rattle.ring_world.specs.Skipping.{skips};
 ghost use Rattle.script_limits.specs.Limits.{IsWithin};
 ghost use Rattle.script_requests.specs.Holding.{HoldsAll, IsClashOf};
 ghost use Rattle.script_terms.specs.declared.line.Line.TheVariants.{Deliver, Resubmit, Settle};
@@ -17,7 +20,7 @@ ghost use Rattle.script_run.specs.States.{StandsFor, StandsNext, IsTurn, IsComin
 
 use crate::labels::Labels;
 use crate::state::State;
-use block_names::{Hash160, NameFault};
+use block_names::{Hash160, NameFault, StepFault};
 use fold_model::ring_folds;
 use pond_base::{ClientId, Party};
 use pond_world::{Site, events_may_come};
@@ -38,8 +41,8 @@ impl<H: Hash160 + Drop> State<H> {
         requires within { IsWithin script.now }
         requires labels { AreLabels H.naming labels.now.entries (reverse script.now.lines) }
         requires here { at < length script.now.lines }
-        requires stands { StandsFor H.naming script.now (lines_before script.now at) self.site self.skips }
-        ensures stands { IfOk result (λ state. StandsNext H.naming script.now at state.site state.skips) }
+        requires stands { StandsFor H.naming script.now (lines_before script.now at) self.site (skips self.site.world) }
+        ensures stands { IfOk result (λ state. StandsNext H.naming script.now at state.site (skips state.site.world)) }
         ensures fault { IfErr result (IsClashOf H.naming (named H.naming script.now (lines_before script.now (at + 1)))) }
     {
         let (_, line) = &script.lines.as_slice()[at];
@@ -54,7 +57,7 @@ impl<H: Hash160 + Drop> State<H> {
             Line::Lose { from, to, place } => Ok(self.lost(script, at, *from, *to, *place)?),
             Line::Settle => self.settled(script, at),
             Line::Mute { party } => Ok(self.muted(script, at, *party)?),
-            Line::Unmute { party } => Ok(self.unmuted(script, at, *party)),
+            Line::Unmute { party } => Ok(self.unmuted(script, at, *party)?),
             Line::ForgeOrder {
                 member,
                 to,
@@ -102,8 +105,8 @@ impl<H: Hash160 + Drop> State<H> {
         client: ClientId,
         number: u32,
     ) -> Result<State<H>, NameFault>
-        requires { IsTurn H.naming script.now at (Resubmit client number) self.site self.skips }
-        ensures stands { IfOk result (λ state. StandsNext H.naming script.now at state.site state.skips) }
+        requires { IsTurn H.naming script.now at (Resubmit client number) self.site (skips self.site.world) }
+        ensures stands { IfOk result (λ state. StandsNext H.naming script.now at state.site (skips state.site.world)) }
         ensures fault { IfErr result (IsClashOf H.naming (named H.naming script.now (lines_before script.now (at + 1)))) }
     {
         self.sent(script, at, Event::Resubmit { client, number })
@@ -116,9 +119,9 @@ impl<H: Hash160 + Drop> State<H> {
         at: usize,
         event: Event,
     ) -> Result<State<H>, NameFault>
-        requires coming { IsComing H.naming script.now at event self.site self.skips }
+        requires coming { IsComing H.naming script.now at event self.site (skips self.site.world) }
         requires quiet { IsQuiet event }
-        ensures stands { IfOk result (λ state. StandsNext H.naming script.now at state.site state.skips) }
+        ensures stands { IfOk result (λ state. StandsNext H.naming script.now at state.site (skips state.site.world)) }
         ensures fault { IfErr result (IsClashOf H.naming (named H.naming script.now (lines_before script.now (at + 1)))) }
     {
         let state = self.advanced(script, at, event)?;
@@ -134,8 +137,8 @@ impl<H: Hash160 + Drop> State<H> {
         to: Party,
         place: u32,
     ) -> Result<State<H>, NameFault>
-        requires { IsTurn H.naming script.now at (Deliver from to place) self.site self.skips }
-        ensures stands { IfOk result (λ state. StandsNext H.naming script.now at state.site state.skips) }
+        requires { IsTurn H.naming script.now at (Deliver from to place) self.site (skips self.site.world) }
+        ensures stands { IfOk result (λ state. StandsNext H.naming script.now at state.site (skips state.site.world)) }
         ensures fault { IfErr result (IsClashOf H.naming (named H.naming script.now (lines_before script.now (at + 1)))) }
     {
         lines_fit_in_turn();
@@ -152,8 +155,8 @@ impl<H: Hash160 + Drop> State<H> {
 
     // All that is pending and not passed over is delivered.
     fn settled(self, script: &Script, at: usize) -> Result<State<H>, NameFault>
-        requires { IsTurn H.naming script.now at Settle self.site self.skips }
-        ensures stands { IfOk result (λ state. StandsNext H.naming script.now at state.site state.skips) }
+        requires { IsTurn H.naming script.now at Settle self.site (skips self.site.world) }
+        ensures stands { IfOk result (λ state. StandsNext H.naming script.now at state.site (skips state.site.world)) }
         ensures fault { IfErr result (IsClashOf H.naming (named H.naming script.now (lines_before script.now (at + 1)))) }
     {
         setups_join();
@@ -162,17 +165,21 @@ impl<H: Hash160 + Drop> State<H> {
         settled_joins();
         settles_are_named();
         self.site.world().submits_apart(self.site.book());
-        let State { alloc, site, skips } = self;
-        let (site, _) = site.settle(&skips)?;
-        holds_committed(&site, script);
-        Ok(State { alloc, site, skips })
+        let mut state = self;
+        match state.site.settle() {
+            Ok(_) => {
+                holds_committed(&state.site, script);
+                Ok(state)
+            }
+            Err(fault) => Err(cause_of(fault)),
+        }
     }
 
     // The world after an event.
     fn advanced(self, script: &Script, at: usize, event: Event) -> Result<State<H>, NameFault>
-        requires { IsComing H.naming script.now at event self.site self.skips }
+        requires { IsComing H.naming script.now at event self.site (skips self.site.world) }
         ensures stands { IfOk result (λ state. WorldStands NodeStands (ring_for H.naming script.now) (namings_for H.naming script.now) state.site.world (events_of H.naming script.now (lines_before script.now (at + 1)))) }
-        ensures skips { IfOk result (λ state. state.skips ≡ self.skips) }
+        ensures skips { IfOk result (λ state. skips state.site.world ≡ skips self.site.world) }
         ensures grew { IfOk result (λ state. Grew H.naming self.site.held
             (Contains (strings_of (ring_for H.naming script.now) (namings_for H.naming script.now) (world_of H.naming script.now (lines_before script.now at)) event)) state.site.held) }
         ensures fault { IfErr result (IsClashAfter H.naming self.site.held
@@ -182,10 +189,24 @@ impl<H: Hash160 + Drop> State<H> {
         events_may_come();
         setups_join();
         lines_fit_in_turn();
-        let State { alloc, site, skips } = self;
-        site.world().may_step(&event);
-        let (site, _) = site.step(event)?;
-        Ok(State { alloc, site, skips })
+        let mut state = self;
+        state.site.world().may_step(&event);
+        match state.site.step(event) {
+            Ok(_) => Ok(state),
+            Err(fault) => Err(cause_of(fault)),
+        }
+    }
+}
+
+// Why a line's strings are not named, where the world had not ended before.
+pub(crate) fn cause_of(fault: StepFault) -> NameFault
+    requires { fault ≢ Ended }
+    ensures { fault ≡ step_fault result }
+{
+    match fault {
+        StepFault::Clash { old, new } => NameFault::Clash { old, new },
+        StepFault::Ended => unreachable!(),
+        StepFault::Memory => NameFault::Memory,
     }
 }
 

@@ -1,5 +1,6 @@
 // What faulty members send.
 ghost use Rattle.std.specs.Prelude.{◌≡◌, ◌+◌, reverse, IfOk, IfErr};
+ghost use Rattle.ring_world.specs.Skipping.{skips};
 ghost use Rattle.script_limits.specs.Limits.{HasSent, IsWithin};
 ghost use Rattle.script_requests.specs.Holding.{IsClashOf};
 ghost use Rattle.script_terms.specs.declared.line.Line.TheVariants.{ForgeOrder, ForgePrepare, ForgeCommit, ForgeHeart, ForgeRaw};
@@ -14,7 +15,6 @@ use block_names::{Hash160, NameFault};
 use bytes::Bytes;
 use message_model::messages_are_meant;
 use pond_base::{ClientId, Label, MemberId, Name, OutOfMemory, Party, Seq, Version};
-use pond_world::{Site, worlds_stay_known};
 use ring_message::{Message, write};
 use ring_world::Event;
 use script_events::asked_is_there;
@@ -33,8 +33,8 @@ impl<H: Hash160 + Drop> State<H> {
         client: ClientId,
         number: u32,
     ) -> Result<State<H>, NameFault>
-        requires { IsTurn H.naming script.now at (ForgeOrder member to seq client number) self.site self.skips }
-        ensures stands { IfOk result (λ state. StandsNext H.naming script.now at state.site state.skips) }
+        requires { IsTurn H.naming script.now at (ForgeOrder member to seq client number) self.site (skips self.site.world) }
+        ensures stands { IfOk result (λ state. StandsNext H.naming script.now at state.site (skips state.site.world)) }
         ensures fault { IfErr result (IsClashOf H.naming (named H.naming script.now (lines_before script.now (at + 1)))) }
     {
         lines_fit_in_turn();
@@ -60,8 +60,8 @@ impl<H: Hash160 + Drop> State<H> {
         client: ClientId,
         number: u32,
     ) -> Result<State<H>, NameFault>
-        requires { IsTurn H.naming script.now at (ForgePrepare member to seq client number) self.site self.skips }
-        ensures stands { IfOk result (λ state. StandsNext H.naming script.now at state.site state.skips) }
+        requires { IsTurn H.naming script.now at (ForgePrepare member to seq client number) self.site (skips self.site.world) }
+        ensures stands { IfOk result (λ state. StandsNext H.naming script.now at state.site (skips state.site.world)) }
         ensures fault { IfErr result (IsClashOf H.naming (named H.naming script.now (lines_before script.now (at + 1)))) }
     {
         lines_fit_in_turn();
@@ -80,8 +80,8 @@ impl<H: Hash160 + Drop> State<H> {
         client: ClientId,
         number: u32,
     ) -> Result<State<H>, NameFault>
-        requires { IsTurn H.naming script.now at (ForgeCommit member to seq client number) self.site self.skips }
-        ensures stands { IfOk result (λ state. StandsNext H.naming script.now at state.site state.skips) }
+        requires { IsTurn H.naming script.now at (ForgeCommit member to seq client number) self.site (skips self.site.world) }
+        ensures stands { IfOk result (λ state. StandsNext H.naming script.now at state.site (skips state.site.world)) }
         ensures fault { IfErr result (IsClashOf H.naming (named H.naming script.now (lines_before script.now (at + 1)))) }
     {
         lines_fit_in_turn();
@@ -101,9 +101,9 @@ impl<H: Hash160 + Drop> State<H> {
         version: Version,
         name: Name,
     ) -> Result<State<H>, NameFault>
-        requires turn { IsTurn H.naming script.now at (ForgeHeart member to label.now version name) self.site self.skips }
+        requires turn { IsTurn H.naming script.now at (ForgeHeart member to label.now version name) self.site (skips self.site.world) }
         requires labels { AreLabels H.naming labels.now.entries (reverse script.now.lines) }
-        ensures stands { IfOk result (λ state. StandsNext H.naming script.now at state.site state.skips) }
+        ensures stands { IfOk result (λ state. StandsNext H.naming script.now at state.site (skips state.site.world)) }
         ensures fault { IfErr result (IsClashOf H.naming (named H.naming script.now (lines_before script.now (at + 1)))) }
     {
         lines_fit_in_turn();
@@ -130,8 +130,8 @@ impl<H: Hash160 + Drop> State<H> {
         to: Party,
         bytes: &Bytes,
     ) -> Result<State<H>, NameFault>
-        requires { IsTurn H.naming script.now at (ForgeRaw member to bytes.now) self.site self.skips }
-        ensures stands { IfOk result (λ state. StandsNext H.naming script.now at state.site state.skips) }
+        requires { IsTurn H.naming script.now at (ForgeRaw member to bytes.now) self.site (skips self.site.world) }
+        ensures stands { IfOk result (λ state. StandsNext H.naming script.now at state.site (skips state.site.world)) }
         ensures fault { IfErr result (IsClashOf H.naming (named H.naming script.now (lines_before script.now (at + 1)))) }
     {
         let bytes = bytes.clone()?;
@@ -147,8 +147,8 @@ impl<H: Hash160 + Drop> State<H> {
         to: Party,
         message: &Message,
     ) -> Result<State<H>, NameFault>
-        requires { IsForgery H.naming script.now at member to message.now self.site self.skips }
-        ensures stands { IfOk result (λ state. StandsNext H.naming script.now at state.site state.skips) }
+        requires { IsForgery H.naming script.now at member to message.now self.site (skips self.site.world) }
+        ensures stands { IfOk result (λ state. StandsNext H.naming script.now at state.site (skips state.site.world)) }
         ensures fault { IfErr result (IsClashOf H.naming (named H.naming script.now (lines_before script.now (at + 1)))) }
     {
         messages_are_meant();
@@ -165,7 +165,7 @@ impl<H: Hash160 + Drop> State<H> {
         number: u32,
     ) -> Result<Bytes, OutOfMemory>
         requires within { IsWithin script.now }
-        requires stands { StandsFor H.naming script.now (lines_before script.now at) self.now.site self.now.skips }
+        requires stands { StandsFor H.naming script.now (lines_before script.now at) self.now.site (skips self.now.site.world) }
         requires sent { HasSent script.now.setup (lines_before script.now at) client number }
         ensures { IfOk result (λ text. text ≡ asked_string (ring_for H.naming script.now) (world_of H.naming script.now (lines_before script.now at)) client number) }
     {
@@ -185,19 +185,16 @@ impl<H: Hash160 + Drop> State<H> {
         number: u32,
     ) -> Result<(State<H>, Name), NameFault>
         requires within { IsWithin script.now }
-        requires stands { StandsFor H.naming script.now (lines_before script.now at) self.site self.skips }
+        requires stands { StandsFor H.naming script.now (lines_before script.now at) self.site (skips self.site.world) }
         requires sent { HasSent script.now.setup (lines_before script.now at) client number }
-        ensures stands { IfOk result (λ found. StandsFor H.naming script.now (lines_before script.now at) found.0.site found.0.skips) }
+        ensures stands { IfOk result (λ found. StandsFor H.naming script.now (lines_before script.now at) found.0.site (skips found.0.site.world)) }
         ensures name { IfOk result (λ found. found.1 ≡ H.naming (asked_string (ring_for H.naming script.now) (world_of H.naming script.now (lines_before script.now at)) client number)) }
         ensures fault { IfErr result (IsClashOf H.naming (named H.naming script.now (lines_before script.now at))) }
     {
         asked_is_there();
-        worlds_stay_known();
         let text = self.asked(script, at, client, number)?;
-        let State { alloc, site, skips } = self;
-        let (mut book, world) = site.into_parts();
-        let name = book.name(text.as_slice())?;
-        let site = Site::of(book, world);
-        Ok((State { alloc, site, skips }, name))
+        let mut state = self;
+        let name = state.site.name(text.as_slice())?;
+        Ok((state, name))
     }
 }

@@ -1,12 +1,13 @@
 // What settles pass over.
 ghost use Rattle.std.specs.Prelude.{◌≡◌, ◌++◌, ◌∷◌, [], IfOk};
+ghost use Rattle.ring_world.specs.Skipping.{skips};
 ghost use Rattle.script_terms.specs.declared.line.Line.TheVariants.{Mute, Unmute, Lose};
 ghost use Rattle.script_run.specs.States.{IsTurn, StandsNext};
 
 use crate::state::State;
 use block_names::Hash160;
 use pond_base::{OutOfMemory, Party};
-use ring_mail::same_party;
+use script_limits::lines_fit_in_turn;
 use script_terms::Script;
 
 impl<H: Hash160 + Drop> State<H> {
@@ -17,22 +18,29 @@ impl<H: Hash160 + Drop> State<H> {
         at: usize,
         party: Party,
     ) -> Result<State<H>, OutOfMemory>
-        requires { IsTurn H.naming script.now at (Mute party) self.site self.skips }
-        ensures { IfOk result (λ state. StandsNext H.naming script.now at state.site state.skips) }
+        requires { IsTurn H.naming script.now at (Mute party) self.site (skips self.site.world) }
+        ensures { IfOk result (λ state. StandsNext H.naming script.now at state.site (skips state.site.world)) }
     {
+        lines_fit_in_turn();
         let mut state = self;
-        state.skips.muted.push(party)?;
+        state.site.mute(party)?;
         Ok(state)
     }
 
     /// From now on they are no more.
-    pub(crate) fn unmuted(self, script: &Script, at: usize, party: Party) -> State<H>
-        requires { IsTurn H.naming script.now at (Unmute party) self.site self.skips }
-        ensures { StandsNext H.naming script.now at result.site result.skips }
+    pub(crate) fn unmuted(
+        self,
+        script: &Script,
+        at: usize,
+        party: Party,
+    ) -> Result<State<H>, OutOfMemory>
+        requires { IsTurn H.naming script.now at (Unmute party) self.site (skips self.site.world) }
+        ensures { IfOk result (λ state. StandsNext H.naming script.now at state.site (skips state.site.world)) }
     {
+        lines_fit_in_turn();
         let mut state = self;
-        state.skips.muted.retain(|other| !same_party(*other, party));
-        state
+        state.site.unmute(party)?;
+        Ok(state)
     }
 
     /// From now on the message at a place is passed over.
@@ -44,11 +52,12 @@ impl<H: Hash160 + Drop> State<H> {
         to: Party,
         place: u32,
     ) -> Result<State<H>, OutOfMemory>
-        requires { IsTurn H.naming script.now at (Lose from to place) self.site self.skips }
-        ensures { IfOk result (λ state. StandsNext H.naming script.now at state.site state.skips) }
+        requires { IsTurn H.naming script.now at (Lose from to place) self.site (skips self.site.world) }
+        ensures { IfOk result (λ state. StandsNext H.naming script.now at state.site (skips state.site.world)) }
     {
+        lines_fit_in_turn();
         let mut state = self;
-        state.skips.lost.push((from, to, place))?;
+        state.site.lose(from, to, place)?;
         Ok(state)
     }
 }

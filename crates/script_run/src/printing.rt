@@ -1,5 +1,6 @@
 // What lines print.
 ghost use Rattle.std.specs.Prelude.{◌≡◌, ◌<◌, length, reverse, string_bytes, IfOk};
+ghost use Rattle.ring_world.specs.Skipping.{skips};
 ghost use Rattle.script_limits.specs.Limits.{IsWithin};
 ghost use Rattle.script_terms.specs.declared.line.Line.TheVariants.{Read, ShowMember, ShowClient, ShowVersion, ShowRecent};
 ghost use Rattle.text_model.specs.Text.{line_text};
@@ -26,7 +27,7 @@ pub(crate) fn line_text<H: Hash160 + Drop>(
     requires within { IsWithin script.now }
     requires labels { AreLabels H.naming labels.now.entries (reverse script.now.lines) }
     requires here { at < length script.now.lines }
-    requires stands { StandsFor H.naming script.now (lines_before script.now at) state.now.site state.now.skips }
+    requires stands { StandsFor H.naming script.now (lines_before script.now at) state.now.site (skips state.now.site.world) }
     ensures { IfOk result (λ printed. PrintsAt H.naming script.now at (string_bytes printed)) }
 {
     let (_, line) = &script.lines.as_slice()[at];
@@ -54,7 +55,7 @@ fn read_text<H: Hash160 + Drop>(
     client: ClientId,
     label: &Label,
 ) -> Result<String, OutOfMemory>
-    requires turn { IsTurn H.naming script.now at (Read client label.now) state.now.site state.now.skips }
+    requires turn { IsTurn H.naming script.now at (Read client label.now) state.now.site (skips state.now.site.world) }
     requires labels { AreLabels H.naming labels.now.entries (reverse script.now.lines) }
     ensures { IfOk result (λ printed. string_bytes printed ≡ line_text H.naming script.now (lines_before script.now at) (Read client label.now)) }
 {
@@ -75,7 +76,7 @@ fn client_text<H: Hash160 + Drop>(
     at: usize,
     client: ClientId,
 ) -> Result<String, OutOfMemory>
-    requires turn { IsTurn H.naming script.now at (ShowClient client) state.now.site state.now.skips }
+    requires turn { IsTurn H.naming script.now at (ShowClient client) state.now.site (skips state.now.site.world) }
     requires labels { AreLabels H.naming labels.now.entries (reverse script.now.lines) }
     ensures { IfOk result (λ printed. string_bytes printed ≡ line_text H.naming script.now (lines_before script.now at) (ShowClient client)) }
 {
@@ -93,7 +94,7 @@ fn member_text<H: Hash160 + Drop>(
     at: usize,
     member: MemberId,
 ) -> Result<String, OutOfMemory>
-    requires { IsTurn H.naming script.now at (ShowMember member) state.now.site state.now.skips }
+    requires { IsTurn H.naming script.now at (ShowMember member) state.now.site (skips state.now.site.world) }
     ensures { IfOk result (λ printed. string_bytes printed ≡ line_text H.naming script.now (lines_before script.now at) (ShowMember member)) }
 {
     setups_join();
@@ -115,7 +116,7 @@ fn shape_text<H: Hash160 + Drop>(
     label: &Label,
     version: Version,
 ) -> Result<String, OutOfMemory>
-    requires { IsTurn H.naming script.now at (ShowVersion member label.now version) state.now.site state.now.skips }
+    requires { IsTurn H.naming script.now at (ShowVersion member label.now version) state.now.site (skips state.now.site.world) }
     ensures { IfOk result (λ printed. string_bytes printed ≡ line_text H.naming script.now (lines_before script.now at) (ShowVersion member label.now version)) }
 {
     setups_join();
@@ -133,7 +134,7 @@ fn recent_text<H: Hash160 + Drop>(
     script: &Script,
     at: usize,
 ) -> Result<String, OutOfMemory>
-    requires { StandsFor H.naming script.now (lines_before script.now at) state.now.site state.now.skips }
+    requires { StandsFor H.naming script.now (lines_before script.now at) state.now.site (skips state.now.site.world) }
     ensures { IfOk result (λ printed. string_bytes printed ≡ line_text H.naming script.now (lines_before script.now at) ShowRecent) }
 {
     printing::recent_text(state.alloc, state.site.world().recent())

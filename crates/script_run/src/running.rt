@@ -1,5 +1,6 @@
 // A run of a script.
 ghost use Rattle.std.specs.Prelude.{◌≡◌, ◌∷◌, ◌<◌, List, ℕ, length, reverse, slice_get, Some, true, IfOk, IfErr, string_bytes};
+ghost use Rattle.ring_world.specs.Skipping.{skips};
 ghost use Rattle.script_limits.specs.Limits.{IsWithin};
 ghost use Rattle.script_requests.specs.Holding.{IsClashOf};
 ghost use Rattle.text_model.specs.Clashes.{has_clash};
@@ -85,8 +86,8 @@ fn after_line<H: Hash160 + Drop, K: Sink>(
     requires within { IsWithin script.now }
     requires labels { AreLabels H.naming labels.now.entries (reverse script.now.lines) }
     requires here { at < length script.now.lines }
-    requires stands { StandsFor H.naming script.now (lines_before script.now at) state.site state.skips }
-    ensures stands { IfOk result (λ after. StandsNext H.naming script.now at after.site after.skips) }
+    requires stands { StandsFor H.naming script.now (lines_before script.now at) state.site (skips state.site.world) }
+    ensures stands { IfOk result (λ after. StandsNext H.naming script.now at after.site (skips after.site.world)) }
     ensures takes { IfOk result (λ after. (line : Numbered) → slice_get script.now.lines at ≡ Some line → Takes (record {
       before = K.taken sink.old;
       after = K.taken sink.new;

@@ -1,10 +1,12 @@
 // Submits.
 ghost use Rattle.std.specs.Prelude.{◌+◌, IfOk, IfErr};
+ghost use Rattle.ring_world.specs.Skipping.{skips};
 ghost use Rattle.script_requests.specs.Holding.{IsClashOf};
 ghost use Rattle.script_terms.specs.declared.line.Line.TheVariants.{Submit};
 ghost use Rattle.text_model.specs.Named.{named};
 ghost use Rattle.script_run.specs.States.{IsTurn, StandsNext, lines_before};
 
+use crate::events::cause_of;
 use crate::state::State;
 use block_names::{Hash160, NameFault};
 use guarded_update::{Request, Update, write};
@@ -26,8 +28,8 @@ impl<H: Hash160 + Drop> State<H> {
         label: Label,
         clauses: &[LineClause],
     ) -> Result<State<H>, NameFault>
-        requires { IsTurn H.naming script.now at (Submit client label clauses.now) self.site self.skips }
-        ensures stands { IfOk result (λ state. StandsNext H.naming script.now at state.site state.skips) }
+        requires { IsTurn H.naming script.now at (Submit client label clauses.now) self.site (skips self.site.world) }
+        ensures stands { IfOk result (λ state. StandsNext H.naming script.now at state.site (skips state.site.world)) }
         ensures fault { IfErr result (IsClashOf H.naming (named H.naming script.now (lines_before script.now (at + 1)))) }
     {
         lines_fit_in_turn();
@@ -36,7 +38,7 @@ impl<H: Hash160 + Drop> State<H> {
         events_come_of_lines();
         events_may_come();
         worlds_stay_known();
-        let State { alloc, site, skips } = self;
+        let State { alloc, site } = self;
         let (mut book, world) = site.into_parts();
         let clauses = clauses_of(alloc, &mut book, clauses)?;
         let request = Request {
@@ -53,7 +55,10 @@ impl<H: Hash160 + Drop> State<H> {
             update: request.update,
         };
         world.may_step(&event);
-        let (site, _) = Site::of(book, world).step(event)?;
-        Ok(State { alloc, site, skips })
+        let mut site = Site::of(book, world);
+        match site.step(event) {
+            Ok(_) => Ok(State { alloc, site }),
+            Err(fault) => Err(cause_of(fault)),
+        }
     }
 }

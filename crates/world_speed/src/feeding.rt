@@ -4,7 +4,7 @@ use bytes::Bytes;
 use guarded_update::{Action, Clause, Setup, Update};
 use pond_base::{ClientId, Items, Label, MemberId};
 use pond_world::Site;
-use ring_world::{Event, Skips};
+use ring_world::Event;
 use std::alloc::Global;
 
 /// What became of the requests that were handed in.
@@ -41,25 +41,24 @@ fn append(alloc: Global, client: u8, label: &[u8]) -> Option<Event> {
     })
 }
 
-/// The site after the next event.
-fn step(site: Site<Sha1Hash>, event: Event) -> Option<Site<Sha1Hash>> {
+/// Does the next event.
+fn step(site: &mut Site<Sha1Hash>, event: Event) -> Option<()> {
     if !site.world().may(&event) {
         return None;
     }
-    let (site, _said) = site.step(event).ok()?;
-    Some(site)
+    site.step(event).ok()?;
+    Some(())
 }
 
-/// The site after so many requests of sixteen clients in turn.
-fn submit(alloc: Global, site: Site<Sha1Hash>, requests: u32) -> Option<Site<Sha1Hash>> {
+/// Hands in so many requests of sixteen clients in turn.
+fn submit(alloc: Global, site: &mut Site<Sha1Hash>, requests: u32) -> Option<()> {
     let labels = [b"a", b"b", b"c", b"d", b"e", b"f", b"g", b"h"];
-    let mut site = site;
     for count in 0..requests {
         let label = labels[(count % 8) as usize];
         let event = append(alloc, (count % 16) as u8, label)?;
-        site = step(site, event)?;
+        step(site, event)?;
     }
-    Some(site)
+    Some(())
 }
 
 /// The site of a ring of ten members before any event.
@@ -87,12 +86,9 @@ fn fewest(site: &Site<Sha1Hash>) -> Option<u32> {
 
 /// Hands so many requests to a ring of ten members, and then all that they cause.
 pub fn feed(alloc: Global, requests: u32) -> Option<Fed> {
-    let site = submit(alloc, open(alloc)?, requests)?;
-    let none = Skips {
-        muted: Vec::new(alloc),
-        lost: Vec::new(alloc),
-    };
-    let (site, deliveries) = site.settle(&none).ok()?;
+    let mut site = open(alloc)?;
+    submit(alloc, &mut site, requests)?;
+    let deliveries = site.settle().ok()?;
     Some(Fed {
         requests,
         deliveries,

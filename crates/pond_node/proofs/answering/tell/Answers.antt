@@ -1,4 +1,4 @@
-use Rattle.std.proofs.Common.{◌≡◌, List, ℕ, ⊎_elim, sym, ◌∙◌, subst}
+use Rattle.std.proofs.Common.{◌≡◌, ⊎_elim, sym, ◌∙◌, subst}
 use Rattle.std.specs.FinMap as map
 use Rattle.block_names.specs.Clashes.{AreHeld}
 use Rattle.block_names.proofs.Clashed.{held_none, held_one}

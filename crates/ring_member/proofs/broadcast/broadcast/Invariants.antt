@@ -1,7 +1,7 @@
 use Rattle.std.proofs.Common.{◌≡◌, ℕ, map, flat_map, take}
 use Rattle.ring_model.specs.Messages.{Ring, Member, to_members}
 use Rattle.message_model.specs.Meaning.{packet, said}
-use Rattle.ring_member.specs.Members.{AreToMembers}
+use Rattle.message_model.specs.Members.{AreToMembers}
 use Rattle.ring_member.proofs.broadcast.broadcast.Given as goal
 
 abbrev pub invariant-loop-message : goal.invariant-loop-message

@@ -1,4 +1,4 @@
-use Rattle.std.proofs.Common.{◌≡◌, ◌++◌, ◌∷◌, [], ℕ, map, ap, sym, subst, ◌∙◌, arith, append_assoc}
+use Rattle.std.proofs.Common.{◌++◌, ◌∷◌, [], ℕ, map, ap, sym, subst, ◌∙◌, arith, append_assoc}
 use Rattle.std.specs.List.{range_with_len}
 use Rattle.std.proofs.lemmas.List.{map-append}
 use Rattle.std.proofs.lemmas.List.FromFn.{map-range_with_len_more}
@@ -6,7 +6,7 @@ use Rattle.ring_message.specs.declared.message.Out.{Out}
 use Rattle.ring_model.specs.Messages.{Packet, Member}
 use Rattle.ring_model.proofs.History.{Each-append}
 use Rattle.message_model.specs.Meaning.{who, packet, meaning}
-use Rattle.ring_member.specs.Members.{IsMember, AreToMembers}
+use Rattle.message_model.specs.Members.{IsMember, AreToMembers}
 use Rattle.ring_member.proofs.broadcast.send_to_all.Goals as goal
 
 pub loop-member-preserved : goal.loop-member-preserved

@@ -2,7 +2,7 @@ use Rattle.std.proofs.Common.{◌≡◌, ◌++◌, ℕ, map}
 use Rattle.std.specs.List.{range_with_len}
 use Rattle.ring_model.specs.Messages.{Member}
 use Rattle.message_model.specs.Meaning.{packet, meaning}
-use Rattle.ring_member.specs.Members.{AreToMembers}
+use Rattle.message_model.specs.Members.{AreToMembers}
 use Rattle.ring_member.proofs.broadcast.send_to_all.Given as goal
 
 abbrev pub invariant-loop-member : goal.invariant-loop-member

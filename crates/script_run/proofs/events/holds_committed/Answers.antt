@@ -18,7 +18,7 @@ returns g c = λ lines stands within.
     let here : WorldStands NodeStands (ring_for h script) (namings_for h script) c.world.result.now (events_of h script lines) =
     subst (λ (w : World Node). WorldStands NodeStands (ring_for h script) (namings_for h script) w (events_of h script lines)) (sym c.world.ensures.world) stands in
     let known : IsKnown node.IsKnown h c.args.site.now.held c.args.site.now.world =
-    subst (λ (w : World Node). IsKnown node.IsKnown h c.args.site.now.held w) c.world.ensures.world c.world.ensures.known in
+    subst (λ (w : World Node). IsKnown node.IsKnown h c.args.site.now.held w) c.world.ensures.world (c.world.ensures.known here.is.going) in
     let found = c.committed.ensures.chosen (ring_for h script) (namings_for h script) (events_of h script lines) here in
     committed_held h script c.args.site.now lines found.0 c.committed.result.now one_block low
     (c.ring_folds.ensures script.setup.f script.setup.clients (is_declared_faulty script) h script.setup.block no_manifest) known stands found.1 found.3

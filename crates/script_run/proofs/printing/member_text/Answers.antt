@@ -5,6 +5,7 @@ use Rattle.pond_node.specs.Standing.{NodeStands}
 use Rattle.text_model.specs.Events.{ring_for, events_of, world_of, is_declared_faulty}
 use Rattle.script_run.specs.States.{lines_before, namings_for}
 use Rattle.script_run.proofs.Shown.{all_spelled, member_faulty, member_here, member_told, world_is}
+use Rattle.ring_world.specs.Skipping.{skips as skips_of}
 use Rattle.script_run.proofs.printing.member_text.Goals as goal
 
 pub returns-in-Some : goal.returns-in-Some
@@ -19,8 +20,8 @@ returns-in-Some g c =
     let namings = namings_for h script in
     let events = events_of h script lines in
     let got = (world_of h script lines).got (Member member.0) in
-    let stands = world_is h script lines c.args.state.now.site c.args.state.now.skips c.world.result.now turn.stands c.world.ensures.world in
-    let here = member_here c.lines_fit_in_turn.ensures.turn h script at member c.args.state.now.site c.args.state.now.skips turn in
+    let stands = world_is h script lines c.args.state.now.site (skips_of c.args.state.now.site.world) c.world.result.now turn.stands c.world.ensures.world in
+    let here = member_here c.lines_fit_in_turn.ensures.turn h script at member c.args.state.now.site (skips_of c.args.state.now.site.world) turn in
     let correct : true ≡ not (is_declared_faulty script member.0) = sym (ap is_some c.in-Some.is) ∙ c.node.ensures.there ring namings events stands here in
     let node : NodeStands c.in-Some.node.now ring namings member.0 got = c.in-Some.ensures.stands ring namings events stands here in
     let spelled = all_spelled c.submits_are_requests.ensures.strings h script lines (executed ring got) turn.stands.requests (c.node.ensures.submitted ring namings events stands) in
@@ -35,7 +36,7 @@ returns-in-None g c =
     let turn = c.requires in
     let lines = lines_before script at in
     let ring = ring_for h script in
-    let stands = world_is h script lines c.args.state.now.site c.args.state.now.skips c.world.result.now turn.stands c.world.ensures.world in
-    let here = member_here c.lines_fit_in_turn.ensures.turn h script at member c.args.state.now.site c.args.state.now.skips turn in
+    let stands = world_is h script lines c.args.state.now.site (skips_of c.args.state.now.site.world) c.world.result.now turn.stands c.world.ensures.world in
+    let here = member_here c.lines_fit_in_turn.ensures.turn h script at member c.args.state.now.site (skips_of c.args.state.now.site.world) turn in
     let faulty : false ≡ not (is_declared_faulty script member.0) = sym (ap is_some c.in-None.is) ∙ c.node.ensures.there ring (namings_for h script) (events_of h script lines) stands here in
     member_faulty string_bytes c.faulty_text.result h script lines member faulty c.faulty_text.ensures

@@ -11,14 +11,15 @@ use Rattle.script_run.proofs.Shown.{committed_after, world_is}
 use Rattle.script_run.proofs.Turns.{turn_fits}
 use Rattle.script_run.proofs.Labelled.{name_here, one_name}
 use Rattle.script_run.proofs.Believing.{client_here, heart_is, read_told}
+use Rattle.ring_world.specs.Skipping.{skips as skips_of}
 use Rattle.script_run.proofs.printing.read_text.Goals as goal
 
 pub client-requires : goal.client-requires
 client-requires g c =
     let a = c.args in
     let h = g.H.Hash160.naming in
-    client_here h a.script.now (lines_before a.script.now a.at) a.state.now.site a.state.now.skips a.client c.requires.turn.stands
-    (turn_fits c.lines_fit_in_turn.ensures.turn h a.script.now a.at (Read a.client a.label.now) a.state.now.site a.state.now.skips c.requires.turn)
+    client_here h a.script.now (lines_before a.script.now a.at) a.state.now.site (skips_of a.state.now.site.world) a.client c.requires.turn.stands
+    (turn_fits c.lines_fit_in_turn.ensures.turn h a.script.now a.at (Read a.client a.label.now) a.state.now.site (skips_of a.state.now.site.world) c.requires.turn)
 
 pub object_of-requires : goal.object_of-requires
 object_of-requires g c =
@@ -34,7 +35,7 @@ returns g c =
     let ring = ring_for h script in
     let events = events_of h script lines in
     let turn = c.requires.turn in
-    let stands = world_is h script lines a.state.now.site a.state.now.skips c.world.result.now turn.stands c.world.ensures.world in
+    let stands = world_is h script lines a.state.now.site (skips_of a.state.now.site.world) c.world.result.now turn.stands c.world.ensures.world in
     let after : AreAfter h script.setup.block (committed_requests h script lines) c.objects-objects.result.now =
     committed_after c.ring_folds.ensures h script lines c.committed.result.now c.objects-objects.result.now turn.within c.objects-objects.ensures.after
     (c.committed.ensures.chosen ring (namings_for h script) events stands) in

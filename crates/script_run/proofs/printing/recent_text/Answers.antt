@@ -4,6 +4,7 @@ use Rattle.ring_world.specs.Deliveries.{deliveries}
 use Rattle.text_model.specs.Events.{ring_for, events_of}
 use Rattle.script_run.specs.States.{lines_before, namings_for}
 use Rattle.script_run.proofs.Shown.{world_is}
+use Rattle.ring_world.specs.Skipping.{skips as skips_of}
 use Rattle.script_run.proofs.printing.recent_text.Goals as goal
 
 pub returns : goal.returns
@@ -13,5 +14,5 @@ returns g c =
     let lines = lines_before script c.args.at in
     let ring = ring_for h script in
     let events = events_of h script lines in
-    let stands = world_is h script lines c.args.state.now.site c.args.state.now.skips c.world.result.now c.requires c.world.ensures.world in
+    let stands = world_is h script lines c.args.state.now.site (skips_of c.args.state.now.site.world) c.world.result.now c.requires c.world.ensures.world in
     IfOk-weaker c.recent_text.result _ _ (λ printed p. p (keep_last 8 (deliveries ring events)) (c.recent.ensures ring (namings_for h script) events stands)) c.recent_text.ensures

@@ -11,6 +11,7 @@ use Rattle.script_run.specs.States.{StandsFor, lines_before}
 use Rattle.script_run.proofs.Stepping.{ends_here, line_written}
 use Rattle.script_run.proofs.Shown.{line_here}
 use Rattle.script_run.proofs.Turns.{lines_more}
+use Rattle.ring_world.specs.Skipping.{skips as skips_of}
 use Rattle.script_run.proofs.running.after_line.Goals as goal
 
 pub bounds-as_slice-at : goal.bounds-as_slice-at
@@ -35,10 +36,10 @@ returns-in_default-write_whole-clause-ends g c = λ line here.
     let h = g.H.Hash160.naming in
     let script = c.args.script.now in
     let before = lines_before script c.args.at in
-    let next : StandsFor h script (line ∷ before) c.in-Ok-after.state.site c.in-Ok-after.state.skips =
-    subst (λ lines. StandsFor h script lines c.in-Ok-after.state.site c.in-Ok-after.state.skips) (lines_more script c.args.at line here) c.in-Ok-after.ensures.stands in
+    let next : StandsFor h script (line ∷ before) c.in-Ok-after.state.site (skips_of c.in-Ok-after.state.site.world) =
+    subst (λ lines. StandsFor h script lines c.in-Ok-after.state.site (skips_of c.in-Ok-after.state.site.world)) (lines_more script c.args.at line here) c.in-Ok-after.ensures.stands in
     let text : c.as_bytes.result.now ≡ line_text h script before line.1 = c.as_bytes.ensures.value ∙ c.in-Ok.ensures line here in
-    let same : c.as_bytes.result.now ≡ written_at h script before line = text ∙ sym (line_written h script before line c.in-Ok-after.state.site c.in-Ok-after.state.skips next) in
+    let same : c.as_bytes.result.now ≡ written_at h script before line = text ∙ sym (line_written h script before line c.in-Ok-after.state.site (skips_of c.in-Ok-after.state.site.world) next) in
     (subst (AppendsPrefix (g.K.Sink.taken c.args.sink.now) (g.K.Sink.taken c.write_whole.new.sink)) same c.write_whole.ensures.prefix, c.in_default-write_whole.ensures.counted.failed)
 
 pub returns-clause-takes : goal.returns-clause-takes

@@ -1,4 +1,5 @@
 use Rattle.script_run.proofs.Stepping.{Stands}
+use Rattle.ring_world.specs.Skipping.{skips as skips_of}
 use Rattle.script_run.proofs.running.run.Given as goal
 
 abbrev pub invariant-loop-at : goal.invariant-loop-at
@@ -7,4 +8,4 @@ invariant-loop-at g l = Stands g.H.Hash160.naming l.script l.at (record {
   after = g.K.Sink.taken l.sink;
   faults_before = g.K.Sink.faults l.initial.sink;
   faults_after = g.K.Sink.faults l.sink;
-}) l.state.site l.state.skips
+}) l.state.site (skips_of l.state.site.world)

@@ -5,5 +5,5 @@ use Rattle.object_fold.proofs.seen.Seen.add.Goals as goal
 
 pub returns : goal.returns
 returns c =
-    subst (λ keys. SeesOneMore keys c.insert.new.self.keys c.args.request.now) c.self.view_is
-    (put_pair _ c.self.inside.pairs.keys c.insert.new.self.keys c.args.request.now (λ p q. search rules) (λ q. c.in_ok-insert.ensures.updates.0 q))
+    subst (λ keys. SeesOneMore keys c.insert.new.self.keys c.args.client c.args.number) c.self.view_is
+    (put_pair _ c.self.inside.pairs.keys c.insert.new.self.keys c.args.client c.args.number (λ p q. search rules) (λ q. c.in_ok-insert.ensures.updates.0 q))

@@ -1,10 +1,12 @@
-use Rattle.std.proofs.Common.{◌≡◌, ap, sym, subst, arith}
+use Rattle.std.proofs.Common.{ap, sym, subst, arith}
 use Rattle.ring_model.specs.Messages.{Client as party}
 use Rattle.fold_model.specs.Folds.{namings_by}
 use Rattle.pond_node.specs.Standing.{NodeStands}
-use Rattle.ring_world.specs.Worlds.{WorldStands}
+use Rattle.ring_model.specs.World.{world}
+use Rattle.ring_world.specs.Worlds.{WorldStands, LabelsHeld}
 use Rattle.pond_world.specs.Setups.{ring_by, is_among}
 use Rattle.pond_world.specs.Sites.{SiteView}
+use Rattle.pond_world.proofs.Labels.{labels_apart}
 use Rattle.pond_world.proofs.site.Site.client.Goals as goal
 
 pub returns-clause-stands : goal.returns-clause-stands
@@ -46,7 +48,12 @@ returns-clause-answered g c = λ setup manifest events is stands correct deliver
     c.client.ensures.answered ring (namings_by h setup.block) events here (c.ring_is_sound.ensures h setup manifest is).1 correct delivered
 
 pub returns-clause-told : goal.returns-clause-told
-returns-clause-told g c = λ setup manifest events is stands correct delivered label apart.
+returns-clause-told g c = λ setup manifest events is stands correct delivered label own.
     let h = g.H.Hash160.naming in
-    c.last_is_told.ensures setup.f setup.clients (is_among setup.faulty) h setup.block manifest (c.ring_is_sound.ensures h setup manifest is).1 correct events stands.legal delivered c.args.client.0
-    (omega (arith, c.requires, stands.is.client_count)) label apart
+    let ring = ring_by h setup manifest in
+    let here = subst (λ w. WorldStands NodeStands ring (namings_by h setup.block) w events) (sym (ap (λ (s : SiteView). s.world) c.self.view_is)) stands in
+    let sound = c.ring_is_sound.ensures h setup manifest is in
+    let held = c.labels_held.ensures ring (namings_by h setup.block) events sound.0 here in
+    c.last_is_told.ensures setup.f setup.clients (is_among setup.faulty) h setup.block manifest sound.1 correct events stands.legal delivered c.args.client.0
+    (omega (arith, c.requires, stands.is.client_count)) label
+    (labels_apart h c.args.self.now.held ring events label stands.legal (subst (λ held. LabelsHeld h held (world ring events).submits) (ap (λ (s : SiteView). s.held) c.self.view_is) held) own)

@@ -5,7 +5,7 @@ use Rattle.pond_world.specs.Sites.{IsClashAfter}
 use Rattle.pond_world.proofs.site.Site.open.Goals as goal
 
 pub invariant_of-result : goal.invariant_of-result
-invariant_of-result g c = record { known = c.in-Ok.ensures.known; going = (c.in-Ok.ensures.stands (λ object versions. [])).is.going }
+invariant_of-result g c = λ going. c.in-Ok.ensures.known
 
 pub returns-in-Err-clause-fault : goal.returns-in-Err-clause-fault
 returns-in-Err-clause-fault g c =

@@ -5,4 +5,4 @@ use Rattle.ring_mail.proofs.Keeping.{length-placed}
 use Rattle.ring_mail.proofs.kept.Mail.count.Goals as goal
 
 pub returns : goal.returns
-returns c = λ sent done h. c.len.ensures ∙ c.args.self.now.order.ok.0 ∙ sym (length-map c.args.self.now.order.items place_of) ∙ ap length h.order_is ∙ length-placed [] sent
+returns c = λ sent done h. c.len.ensures ∙ c.args.self.now.order.ok.0 ∙ sym (length-map c.args.self.now.order.items place_of) ∙ ap length h.kept.order_is ∙ length-placed [] sent

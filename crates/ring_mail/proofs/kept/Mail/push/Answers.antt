@@ -1,14 +1,9 @@
-use Rattle.std.proofs.Common.{ap, ◌∙◌, Vec, length, ◌∷◌, ◌++◌, [], false}
-use Rattle.std.specs.declared.alloc.Global.{Global}
-use Rattle.ring_mail.specs.declared.kept.Kept.{Kept}
 use Rattle.message_model.specs.Meaning.{who}
-use Rattle.ring_mail.proofs.Keeping.{mail_pushed}
+use Rattle.ring_mail.proofs.Mailing.{pushed}
 use Rattle.ring_mail.proofs.kept.Mail.push.Goals as goal
 
-pub returns : goal.returns
-returns c =
-    λ sent done h.
-    mail_pushed c.args.self.now c.link-number.result c.push.new.self c.index_mut.result.now c.index.result.now c.push-2.new.self (who c.args.from) (who c.args.to) c.args.bytes
-    (record { from = c.args.from; to = c.args.to; place = c.in-Ok.place }) sent done c.requires.0 c.requires.1 c.link-number.ensures
-    (c.in_ok-push.ensures.items ∙ ap (λ (v : Vec Kept Global). v.items ++ record { bytes = c.args.bytes; delivered = false } ∷ []) c.index_mut.ensures.value) c.in_ok-push-2.ensures.items
-    (ap (λ k. record { from = who c.args.from; to = who c.args.to; place = k }) (c.in-Ok.ensures.1 ∙ c.len.ensures ∙ c.index.result.now.ok.0 ∙ ap (λ (v : Vec Kept Global). length v.items) c.index.ensures)) h
+pub returns-clause-mail : goal.returns-clause-mail
+returns-clause-mail c = λ sent done h.
+    pushed c.args.self.now c.keep.new.self c.wait.new.self (who c.args.from) (who c.args.to) c.args.bytes c.link.result c.in_ok-place.place c.in_ok-place.number sent done c.requires.0 c.requires.1 c.link.ensures
+    (c.in_ok-place.ensures.place sent done h) (c.in_ok-place.ensures.number sent done h) (c.in_ok-place.ensures.kept sent done h) c.in_ok-place.ensures.lost c.in_ok-place.ensures.queue
+    c.in_ok-wait.ensures.waits c.in_ok-wait.ensures.heads c.in_ok-wait.ensures.links c.in_ok-wait.ensures.order c.in_ok-wait.ensures.front c.in_ok-wait.ensures.lost h

@@ -3,7 +3,7 @@ use Rattle.ring_model.specs.Messages.{Prepare, Commit}
 use Rattle.message_model.specs.Meaning.{said}
 use Rattle.ring_member.specs.Views.{view_of, prepared_in}
 use Rattle.ring_member.specs.Standing.{order, Live}
-use Rattle.ring_member.specs.Told.{news_of}
+use Rattle.member_orders.specs.Told.{news_of}
 use Rattle.ring_member.proofs.Executing.{ran_after, late_stands}
 use Rattle.ring_member.proofs.Letters.{late_order, quiet_live, propose_live}
 use Rattle.ring_member.proofs.Telling.{told_nothing, order_told}

@@ -4,7 +4,7 @@ use Rattle.message_model.specs.Meaning.{said}
 use Rattle.vote_model.specs.Joins.{letter}
 use Rattle.ring_member.specs.Views.{view_of, prepared_in}
 use Rattle.ring_member.specs.Standing.{Live}
-use Rattle.ring_member.specs.Told.{news_of}
+use Rattle.member_orders.specs.Told.{news_of}
 use Rattle.ring_member.proofs.Executing.{ran_after, late_stands}
 use Rattle.ring_member.proofs.Letters.{late_vote, quiet_live, cast_live}
 use Rattle.ring_member.proofs.Telling.{told_nothing, vote_told}

@@ -25,7 +25,7 @@ returns-clause-ok g c = λ r namings v done ring h from to.
     handed g.N.Node.stands r namings c.args.self.now v done (who c.args.from) c.args.to.0 c.args.bytes.now c.take.new.self c.post.new.mail
     (c.in_ok-out.ensures.members r namings v.got ring from to h.members_are)
     (subst (λ xs. IsMail c.post.new.mail (v.sent ++ xs) done) (ap (map (packet_from (Member c.args.to.0))) c.deref.ensures.value ∙ c.in_ok-out.ensures.out r namings v.got ring from to h.members_are)
-    (c.in_ok-post.ensures v.sent done h.mail_is)) h
+    (c.in_ok-post.ensures.mail v.sent done h.mail_is)) h
 
 pub returns-clause-names : goal.returns-clause-names
 returns-clause-names g c = λ r namings v done ring h from to. c.in_ok-out.ensures.names r namings v.got ring from to h.members_are

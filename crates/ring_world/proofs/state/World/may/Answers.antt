@@ -1,27 +1,11 @@
-use Rattle.std.proofs.Common.{◌<◌, ℕ, List, [], ◌∷◌, length, subst, arith}
-use Rattle.std.proofs.lemmas.Bool.{leb-false}
-use Rattle.ring_world.specs.declared.event.Event.{Event}
-use Rattle.ring_world.specs.Steps.{IsStep}
+use Rattle.ring_world.proofs.Nexts.{next_step, next_comes, comes_next}
 use Rattle.ring_world.proofs.state.World.may.Goals as goal
 
--- an element of a list that has one at a place
-some_of : {X : Type 0} (xs : List X) (i : ℕ) → i < length xs → X
-some_of [] i low = absurd (omega (arith, low))
-some_of (x ∷ xs) i low = x
+pub returns-clause-comes : goal.returns-clause-comes
+returns-clause-comes g c = λ yes h r namings events ring s. next_comes g.N.Node.stands h r namings c.args.self.now events c.args.event.now ring s (c.tests.ensures.next yes) (c.tests.ensures.places yes)
 
-pub returns-else-count-lt65536-clause-no : goal.returns-else-count-lt65536-clause-no
-returns-else-count-lt65536-clause-no g c = λ e step.
-    let asks = subst (λ (e : Event). IsStep c.args.self.now e) c.in-Submit.is step in
-    let some = some_of c.args.self.now.clients.items c.in-Submit.client.0 asks.0.1 in
-    let few = asks.1 some in
-    let count = c.in-Some.ensures.some.1 some in
-    omega (arith, few, count, c.if-count-lt65536.false)
+pub returns-clause-stays : goal.returns-clause-stays
+returns-clause-stays g c = λ no h r namings events ring s step may. c.tests.ensures.no no (comes_next g.N.Node.stands r namings c.args.self.now events c.args.event.now s step may)
 
-pub returns-then-number-gt0-clause-no : goal.returns-then-number-gt0-clause-no
-returns-then-number-gt0-clause-no g c = λ e step.
-    let asks = subst (λ (e : Event). IsStep c.args.self.now e) c.in-Resubmit.is step in
-    let some = some_of c.args.self.now.clients.items c.in-Resubmit.client.0 asks.0.1 in
-    let few = asks.2 some in
-    let count = c.in-Some-asked.ensures.some.1 some in
-    let more = leb-false c.in-Resubmit.number c.in-Some-asked.count e in
-    omega (arith, few, count, more)
+pub returns-clause-yes : goal.returns-clause-yes
+returns-clause-yes g c = λ yes. next_step c.args.self.now c.args.event.now (c.tests.ensures.next yes)

@@ -21,4 +21,4 @@ returns-clause-ok g c = λ h r namings v done ring is order.
     resubmitted g.N.Node.stands r namings c.args.self.now v done k c.args.number text.0 c.post.new.mail (asked_again r v.submits k c.args.number (c.args.number - 1) text.0 next text.1 order)
     (subst (λ xs. IsMail c.post.new.mail (v.sent ++ xs) done)
     (ap (map (packet_from (client k))) c.deref.ensures.value ∙ c.in_ok-messages.ensures.sent r k (filter (of r k) v.submits) (v.got (client k)) text.0 stood text.1)
-    (c.in_ok-post.ensures v.sent done is.mail_is)) is
+    (c.in_ok-post.ensures.mail v.sent done is.mail_is)) is

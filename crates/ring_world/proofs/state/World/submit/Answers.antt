@@ -1,7 +1,6 @@
-use Rattle.std.proofs.Common.{ℕ, ◌∷◌, ◌++◌, [], Ok, map, filter, ap, sym, ◌∙◌, subst}
+use Rattle.std.proofs.Common.{ℕ, ◌∷◌, ◌++◌, [], Ok, map, filter, ap, sym, ◌∙◌, subst, arith}
 use Rattle.std.specs.List.{AllByRecursion as Each}
 use Rattle.std.proofs.lemmas.Result.{err_from_is_err_and}
-use Rattle.block_names.specs.Growth.{Holds}
 use Rattle.tree_format.specs.Strings.{label_string}
 use Rattle.guarded_update.specs.declared.request.Request.{Request}
 use Rattle.guarded_update.specs.Spelling.{request_string}
@@ -15,7 +14,7 @@ use Rattle.client_core.specs.Naming.{Names}
 use Rattle.client_core.specs.Clients as core
 use Rattle.client_core.proofs.Calls.{names_err, names_spent}
 use Rattle.ring_world.specs.Deliveries.{packet_from}
-use Rattle.ring_world.specs.Worlds.{next_request}
+use Rattle.ring_world.specs.Worlds.{IsNamed, next_request}
 use Rattle.ring_world.proofs.Telling.{of, client_at, all_seats}
 use Rattle.ring_world.proofs.Requests.{next_is, submitted_as, known_more, texts_more}
 use Rattle.ring_world.proofs.state.World.submit.Goals as goal
@@ -48,8 +47,9 @@ returns-clause-known g c =
     let one = c.index_mut.result.now in
     let keeps = c.in_ok-messages.ensures.names.1.kept in
     known_more g.N.Node.knows h held now c.args.self.now c.args.client.0 c.submit.new.self c.post.new.mail (λ node k. g.met.N.Node.stays h held now node keeps k) keeps c.requires.step.0.1
-    (texts_more h held now one c.submit.new.self (request_string (core.next_request one c.args.label c.args.update)) c.in_ok-messages.ensures.texts keeps c.in_ok-messages.ensures.holds
-    (subst (λ (k : Client). Each (Holds h held) (core.texts_of k)) (sym c.index_mut.ensures.value) (c.requires.known.requests c.args.client.0 one c.requires.step.0.1)))
+    (texts_more h held now one c.submit.new.self (core.next_request one c.args.label c.args.update) c.in_ok-messages.ensures.texts keeps c.in_ok-messages.ensures.allowed c.in_ok-messages.ensures.holds
+    (c.in_ok-messages.ensures.names.2 0 (label_string c.args.label) (omega arith))
+    (subst (λ (k : Client). Each (IsNamed h held) (core.texts_of k)) (sym c.index_mut.ensures.value) (c.requires.known.requests c.args.client.0 one c.requires.step.0.1)))
     c.requires.known
 
 pub returns-clause-ok : goal.returns-clause-ok
@@ -63,7 +63,7 @@ returns-clause-ok g c = λ r namings v done ring h.
     made stood.number ring c.in_ok-messages.ensures.allowed c.requires.step.0.1 (c.in_ok-messages.ensures.stands r k (filter (of r k) v.submits) (v.got (client k)) stood)
     (subst (λ xs. IsMail c.post.new.mail (v.sent ++ xs) done)
     (ap (map (packet_from (client k))) c.deref.ensures.value ∙ c.in_ok-messages.ensures.sent r k (filter (of r k) v.submits) (v.got (client k)) ring stood)
-    (c.in_ok-post.ensures v.sent done h.mail_is)) h
+    (c.in_ok-post.ensures.mail v.sent done h.mail_is)) h
 
 pub returns-clause-names : goal.returns-clause-names
 returns-clause-names g c = λ r namings v done ring h.

@@ -4,6 +4,7 @@ use Rattle.script_terms.specs.declared.line.LineClause.{LineClause}
 use Rattle.script_terms.specs.declared.line.Line.TheVariants.{Submit, Resubmit, Deliver, Lose, Settle, Mute, Unmute, ForgeOrder, ForgePrepare, ForgeCommit, ForgeHeart, ForgeRaw}
 use Rattle.script_run.proofs.Shown.{line_here}
 use Rattle.script_run.proofs.Passed.{IsShow, shown_next}
+use Rattle.ring_world.specs.Skipping.{skips as skips_of}
 use Rattle.script_run.proofs.state.State.after.Goals as goal
 
 pub bounds-as_slice-at : goal.bounds-as_slice-at
@@ -119,7 +120,7 @@ returns-in-Read-clause-stands g c =
         ]
       ]
     ] in
-    shown_next g.H.Hash160.naming c.args.script.now c.args.at line c.args.self.site c.args.self.skips shows (record {
+    shown_next g.H.Hash160.naming c.args.script.now c.args.at line c.args.self.site (skips_of c.args.self.site.world) shows (record {
       within = c.requires.within;
       number = c.index-as_slice-at.result.0;
       here = line_here c.args.script.now c.as_slice.result.now c.args.at c.index-as_slice-at.result line c.as_slice.ensures c.requires.here c.index-as_slice-at.is refl;

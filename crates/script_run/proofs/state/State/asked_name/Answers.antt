@@ -1,9 +1,10 @@
-use Rattle.std.proofs.Common.{◌≡◌, ◌∙◌, ap, subst}
+use Rattle.std.proofs.Common.{◌∙◌, sym, subst}
 use Rattle.std.proofs.lemmas.Result.{err_from_is_err_and}
-use Rattle.std.specs.FinMap as map
-use Rattle.block_names.specs.Growth.{Grew}
-use Rattle.script_run.specs.States.{lines_before}
+use Rattle.pond_node.specs.declared.node.Node.{Node}
+use Rattle.ring_world.specs.declared.state.World.{World}
+use Rattle.script_run.specs.States.{StandsFor, lines_before}
 use Rattle.script_run.proofs.Forgeries.{asked_named, again_clash, named_again}
+use Rattle.ring_world.specs.Skipping.{skips as skips_of}
 use Rattle.script_run.proofs.state.State.asked_name.Goals as goal
 
 pub returns-in_err-name-clause-fault : goal.returns-in_err-name-clause-fault
@@ -13,12 +14,8 @@ returns-in_err-name-clause-fault g c =
     let a = c.args in
     let lines = lines_before a.script.now a.at in
     let text = c.as_slice.result.now in
-    let there = asked_named c.asked_is_there.ensures h a.script.now lines a.self.site a.self.skips a.client a.number text c.requires.stands c.requires.sent (c.as_slice.ensures ∙ c.in_ok-text.ensures) in
-    let grew = subst (λ held. Grew h held (λ string. string ≡ text) c.name.new.self.held) c.into_parts-book.ensures.book c.name.ensures.grew in
-    rw (p.1, p.2) (again_clash h a.script.now lines a.self.site a.self.skips text c.name.new.self.held c.in_err-name.field-0.0 c.requires.stands there grew c.in_err-name.ensures.fault)
-
-pub of-site-requires-clause-known : goal.of-site-requires-clause-known
-of-site-requires-clause-known g c = c.worlds_stay_known.ensures g.H.Hash160.naming c.into_parts-book.result.0.held c.name.new.self.held c.into_parts-book.result.1 c.name.ensures.grew.kept c.into_parts-book.ensures.known
+    let there = asked_named c.asked_is_there.ensures h a.script.now lines a.self.site (skips_of a.self.site.world) a.client a.number text c.requires.stands c.requires.sent (c.as_slice.ensures ∙ c.in_ok-text.ensures) in
+    rw (p.1, p.2) (again_clash h a.script.now lines a.self.site (skips_of a.self.site.world) text c.name.new.self.held c.in_err-name.field-0.0 c.requires.stands there c.name.ensures.grew c.in_err-name.ensures.fault)
 
 pub returns-clause-stands : goal.returns-clause-stands
 returns-clause-stands g c =
@@ -26,6 +23,6 @@ returns-clause-stands g c =
     let a = c.args in
     let lines = lines_before a.script.now a.at in
     let text = c.as_slice.result.now in
-    let there = asked_named c.asked_is_there.ensures h a.script.now lines a.self.site a.self.skips a.client a.number text c.requires.stands c.requires.sent (c.as_slice.ensures ∙ c.in_ok-text.ensures) in
-    named_again h a.script.now lines a.self.site c.of-site.result a.self.skips text c.requires.stands there (c.of-site.ensures.world ∙ c.into_parts-book.ensures.world)
-    (c.of-site.ensures.held ∙ c.in_ok-name.ensures.held ∙ ap (λ held. map.insert held (h text) text) c.into_parts-book.ensures.book)
+    let there = asked_named c.asked_is_there.ensures h a.script.now lines a.self.site (skips_of a.self.site.world) a.client a.number text c.requires.stands c.requires.sent (c.as_slice.ensures ∙ c.in_ok-text.ensures) in
+    subst (λ (w : World Node). StandsFor h a.script.now lines c.name.new.self (skips_of w)) (sym c.name.ensures.world)
+    (named_again h a.script.now lines a.self.site c.name.new.self (skips_of a.self.site.world) text c.requires.stands there c.name.ensures.world c.in_ok-name.ensures.held)

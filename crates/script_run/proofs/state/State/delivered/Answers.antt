@@ -5,7 +5,7 @@ use Rattle.pond_node.specs.Standing.{NodeStands}
 use Rattle.pond_world.specs.Sites.{SiteView}
 use Rattle.ring_model.specs.Laws.{NoClash}
 use Rattle.ring_world.specs.declared.event.Event.TheVariants as wevent
-use Rattle.ring_world.specs.declared.skips.Skips.{Skips}
+use Rattle.ring_mail.specs.Skips.{Skips}
 use Rattle.ring_world.specs.declared.state.World.{World}
 use Rattle.ring_world.specs.Worlds.{WorldStands, strings_of}
 use Rattle.script_terms.specs.declared.line.Line.TheVariants.{Deliver}
@@ -14,6 +14,7 @@ use Rattle.script_run.specs.States.{StandsNext, IsComing, lines_before, namings_
 use Rattle.script_run.proofs.Coming.{Comes, comes}
 use Rattle.script_run.proofs.Settling.{delivery_named, delivered_next, clash_here}
 use Rattle.script_run.proofs.Turns.{lines_more}
+use Rattle.ring_world.specs.Skipping.{skips as skips_of}
 use Rattle.script_run.proofs.state.State.delivered.Goals as goal
 
 pub advanced-requires : goal.advanced-requires
@@ -27,7 +28,7 @@ returns-in_err-state-clause-fault g c =
     let line = Deliver c.args.from c.args.to c.args.place in
     let event = wevent.Deliver c.args.from c.args.to c.args.place in
     let site : SiteView = c.args.self.site in
-    let skips : Skips = c.args.self.skips in
+    let skips : Skips = skips_of c.args.self.site.world in
     let coming : IsComing h script at event site skips = record { line = line; turn = c.requires; is_event = refl } in
     let found : Comes h script at c.requires.number line event = comes c.lines_fit_in_turn.ensures.turn c.events_come_of_lines.ensures c.events_may_come.ensures c.setups_join.ensures.sound h script at event site skips coming in
     let events = events_of h script (lines_before script at) in
@@ -48,7 +49,7 @@ returns-clause-stands g c =
     let line = Deliver c.args.from c.args.to c.args.place in
     let event = wevent.Deliver c.args.from c.args.to c.args.place in
     let site : SiteView = c.args.self.site in
-    let skips : Skips = c.args.self.skips in
+    let skips : Skips = skips_of c.args.self.site.world in
     let coming : IsComing h script at event site skips = record { line = line; turn = c.requires; is_event = refl } in
     let found : Comes h script at c.requires.number line event = comes c.lines_fit_in_turn.ensures.turn c.events_come_of_lines.ensures c.events_may_come.ensures c.setups_join.ensures.sound h script at event site skips coming in
     let events = events_of h script (lines_before script at) in

@@ -1,12 +1,13 @@
 use Rattle.std.proofs.lemmas.Result.{err_from_is_err_and}
 use Rattle.script_terms.specs.declared.line.Line.TheVariants.{ForgePrepare}
 use Rattle.script_run.proofs.Forgeries.{clash_next, prepare_forged, prepare_sent}
+use Rattle.ring_world.specs.Skipping.{skips as skips_of}
 use Rattle.script_run.proofs.state.State.forged_prepare.Goals as goal
 
 pub asked_name-requires-clause-sent : goal.asked_name-requires-clause-sent
 asked_name-requires-clause-sent g c =
     let a = c.args in
-    prepare_sent c.lines_fit_in_turn.ensures.turn g.H.Hash160.naming a.script.now a.at a.member a.to a.seq a.client a.number a.self.site a.self.skips c.requires
+    prepare_sent c.lines_fit_in_turn.ensures.turn g.H.Hash160.naming a.script.now a.at a.member a.to a.seq a.client a.number a.self.site (skips_of a.self.site.world) c.requires
 
 pub returns-in_err-state-clause-fault : goal.returns-in_err-state-clause-fault
 returns-in_err-state-clause-fault g c =
@@ -17,5 +18,5 @@ returns-in_err-state-clause-fault g c =
 pub forged-requires : goal.forged-requires
 forged-requires g c =
     let a = c.args in
-    prepare_forged c.lines_fit_in_turn.ensures.turn g.H.Hash160.naming a.script.now a.at a.member a.to a.seq a.client a.number c.in_ok-state.name a.self.site c.in_ok-state.state.site a.self.skips c.in_ok-state.state.skips c.requires
+    prepare_forged c.lines_fit_in_turn.ensures.turn g.H.Hash160.naming a.script.now a.at a.member a.to a.seq a.client a.number c.in_ok-state.name a.self.site c.in_ok-state.state.site (skips_of a.self.site.world) (skips_of c.in_ok-state.state.site.world) c.requires
     c.in_ok-state.ensures.stands c.in_ok-state.ensures.name

@@ -1,9 +1,19 @@
-use Rattle.std.proofs.Common.{refl, rules}
-use Rattle.std.proofs.lemmas.Fn.{filter_same}
-use Rattle.script_run.proofs.Passed.{unmuted_next}
+use Rattle.script_run.proofs.Passed.{unmuted_next, declared_seat}
+use Rattle.script_run.proofs.Turns.{turn_fits}
+use Rattle.script_terms.specs.declared.line.Line.TheVariants.{Unmute}
+use Rattle.text_model.specs.Events.{ring_for, events_of}
+use Rattle.script_run.specs.States.{lines_before, namings_for}
+use Rattle.ring_world.specs.Skipping.{skips as skips_of}
 use Rattle.script_run.proofs.state.State.unmuted.Goals as goal
+
+pub unmute-requires : goal.unmute-requires
+unmute-requires g c =
+    declared_seat c.args.script.now.setup c.args.party c.requires.within.setup
+    (turn_fits c.lines_fit_in_turn.ensures.turn g.H.Hash160.naming c.args.script.now c.args.at (Unmute c.args.party) c.args.self.site (skips_of c.args.self.site.world) c.requires)
 
 pub returns : goal.returns
 returns g c =
-    unmuted_next g.H.Hash160.naming c.args.script.now c.args.at c.args.party c.args.self.site c.args.self.skips _ c.requires
-    (filter_same _ _ _ (λ x b f' k. search rules) _ _ c.retain.ensures.filtered) refl
+    let h = g.H.Hash160.naming in
+    let script = c.args.script.now in
+    unmuted_next h script c.args.at c.args.party c.args.self.site c.unmute.new.self (skips_of c.args.self.site.world) (skips_of c.unmute.new.self.world) c.requires c.unmute.ensures.held
+    (c.in_ok-unmute.ensures.stands (ring_for h script) (namings_for h script) (events_of h script (lines_before script c.args.at)) c.requires.stands.stands) c.in_ok-unmute.ensures.muted c.in_ok-unmute.ensures.lost

@@ -1,5 +1,0 @@
-use Rattle.belief_model.proofs.Labels.{heart_is_of_label as law}
-use Rattle.belief_model.proofs.heart_is_of_label.Goals as goal
-
-pub returns : goal.returns
-returns c = law

@@ -1,5 +1,0 @@
-use Rattle.belief_model.proofs.Labels.{made_versions_rise as law}
-use Rattle.belief_model.proofs.made_versions_rise.Goals as goal
-
-pub returns : goal.returns
-returns c = law

@@ -1,0 +1,20 @@
+use Rattle.std.proofs.Common.{ap, ap₂, sym, ◌∙◌, cond, not, length}
+use Rattle.std.specs.BTreeSet.{contains}
+use Rattle.std.specs.Ordering.{nat_cmp}
+use Rattle.std.proofs.lemmas.Option.{slice_get_read}
+use Rattle.ring_mail.specs.Queues.{is_quiet as quiet}
+use Rattle.ring_mail.proofs.Queueing.{lead_is, lead_none, none_there}
+use Rattle.ring_mail.proofs.kept.Queue.show.Goals as goal
+
+pub returns-in_ok-insert-clause-heads : goal.returns-in_ok-insert-clause-heads
+returns-in_ok-insert-clause-heads c = λ q.
+    let there = slice_get_read c.args.self.now.waiting.items 676 c.args.link c.index.result.now (sym c.args.self.now.links) c.requires c.index.ensures in
+    c.in_ok-insert.ensures.updates.0 q
+    ∙ ap₂ (λ b on. cond b on (contains nat_cmp c.args.self.now.heads q))
+    (sym (lead_is c.args.self.now.waiting.items c.index.result.now c.args.link c.in-Some.first.now c.head_of-head.result q there c.in-Some.ensures.first c.head_of-head.ensures.number c.head_of-head.ensures.link))
+    (sym (ap not (sym c.is_quiet.ensures ∙ c.if-is_quiet.false)))
+
+pub returns-in_default-clause-heads : goal.returns-in_default-clause-heads
+returns-in_default-clause-heads c = λ q.
+    let there = slice_get_read c.args.self.now.waiting.items 676 c.args.link c.index.result.now (sym c.args.self.now.links) c.requires c.index.ensures in
+    sym (ap (λ b. cond b (not (quiet c.args.self.now.muted.items c.args.link)) (contains nat_cmp c.args.self.now.heads q)) (lead_none c.args.self.now.waiting.items c.index.result.now c.args.link q there (none_there (length c.index.result.now.keys) c.in_default.ensures.variant.1)))
