@@ -10,6 +10,7 @@ use pond_world::Site;
 use ring_world::{Event, Said};
 use std::alloc::Global;
 use std::test::Fail;
+use std::thread::Threads;
 
 // An event that is asked for. A client submits an update of so many clauses, each an append of one byte.
 enum Ask {
@@ -160,23 +161,23 @@ fn event(alloc: Global, ask: &Ask) -> Result<Event, Fail> {
 }
 
 // What comes of an event, where it may come.
-fn after(site: &mut Site<Sha1Hash>, event: Event) -> Result<char, Fail> {
+fn after<R: Threads>(rt: &R, site: &mut Site<Sha1Hash>, event: Event) -> Result<char, Fail> {
     if !site.world().may(&event) {
         return Ok('n');
     }
-    match site.step(event)? {
+    match site.step(rt, event)? {
         Said::Nothing => Ok('0'),
         Said::Sent(_) => Ok('y'),
     }
 }
 
-fn told(alloc: Global, setup: &Setup, asks: &[Ask]) -> Result<String, Fail>
+fn told<R: Threads>(rt: &R, alloc: Global, setup: &Setup, asks: &[Ask]) -> Result<String, Fail>
     requires { IsSetup setup.now }
 {
     let mut text = String::new(alloc);
     let mut site = Site::open(alloc, Sha1Hash, setup)?;
     for ask in asks {
-        text.push(after(&mut site, event(alloc, ask)?)?)?;
+        text.push(after(rt, &mut site, event(alloc, ask)?)?)?;
     }
     Ok(text)
 }
@@ -186,7 +187,7 @@ fn cases(rt: HostRuntime) -> Result<(), Fail> {
     let alloc = rt.alloc();
     for (f, member, asks, wanted) in CASES {
         let setup = setup(alloc, *f, *member)?;
-        assert_eq!(rt; told(alloc, &setup, asks)?.as_str(), *wanted);
+        assert_eq!(rt; told(&rt, alloc, &setup, asks)?.as_str(), *wanted);
     }
     Ok(())
 }

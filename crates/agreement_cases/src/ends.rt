@@ -12,6 +12,7 @@ use pond_node::Node;
 use pond_world::open;
 use ring_world::{Event, Said, World};
 use std::alloc::Global;
+use std::thread::Threads;
 
 // Appends of 61ee to `a` and of ee61 to `b`, a settle where there is no request, another settle, and an
 // append of 61.
@@ -85,7 +86,8 @@ fn sent(alloc: Global, count: u64) -> Result<String, Broken> {
     Ok(text)
 }
 
-fn happens<H: Hash160 + Drop>(
+fn happens<R: Threads, H: Hash160 + Drop>(
+    rt: &R,
     alloc: Global,
     world: &mut World<Node>,
     book: &mut Book<H>,
@@ -97,13 +99,14 @@ fn happens<H: Hash160 + Drop>(
     if !world.may(&event) {
         return Err(Broken::Unfit);
     }
-    match world.step(book, event) {
+    match world.step(rt, book, event) {
         Ok(said) => said_text(alloc, said),
         Err(fault) => fault_text(alloc, fault),
     }
 }
 
-fn settle<H: Hash160 + Drop>(
+fn settle<R: Threads, H: Hash160 + Drop>(
+    rt: &R,
     alloc: Global,
     world: &mut World<Node>,
     book: &mut Book<H>,
@@ -111,13 +114,14 @@ fn settle<H: Hash160 + Drop>(
     requires { world.old.ended ≡ false → IsKnown node.IsKnown H.naming book.old.held world.old }
     ensures { OnOk result (world.new.ended ≡ false → IsKnown node.IsKnown H.naming book.new.held world.new) }
 {
-    match world.settle(book) {
+    match world.settle(rt, book) {
         Ok(_) => line(alloc, "settled"),
         Err(fault) => fault_text(alloc, fault),
     }
 }
 
-fn answer<H: Hash160 + Drop>(
+fn answer<R: Threads, H: Hash160 + Drop>(
+    rt: &R,
     alloc: Global,
     world: &mut World<Node>,
     book: &mut Book<H>,
@@ -127,9 +131,9 @@ fn answer<H: Hash160 + Drop>(
     ensures { OnOk result (world.new.ended ≡ false → IsKnown node.IsKnown H.naming book.new.held world.new) }
 {
     if digits.is_empty() {
-        return settle(alloc, world, book);
+        return settle(rt, alloc, world, book);
     }
-    happens(alloc, world, book, submit(alloc, digits)?)
+    happens(rt, alloc, world, book, submit(alloc, digits)?)
 }
 
 fn add_ends(text: &mut String, ended: bool, named: bool) -> Result<(), Broken> {
@@ -141,7 +145,8 @@ fn add_ends(text: &mut String, ended: bool, named: bool) -> Result<(), Broken> {
     Ok(())
 }
 
-fn run<H: Hash160 + Drop>(
+fn run<R: Threads, H: Hash160 + Drop>(
+    rt: &R,
     alloc: Global,
     world: &mut World<Node>,
     book: &mut Book<H>,
@@ -152,14 +157,15 @@ fn run<H: Hash160 + Drop>(
 {
     for step in steps {
         let before = book.namings();
-        let answer = answer(alloc, world, book, step)?;
+        let answer = answer(rt, alloc, world, book, step)?;
         text.push_str(answer.as_str())?;
         add_ends(text, world.ended(), book.namings() > before)?;
     }
     Ok(())
 }
 
-fn tell<H: Hash160 + Drop>(
+fn tell<R: Threads, H: Hash160 + Drop>(
+    rt: &R,
     alloc: Global,
     world: &mut World<Node>,
     book: &mut Book<H>,
@@ -167,17 +173,17 @@ fn tell<H: Hash160 + Drop>(
     requires { world.old.ended ≡ false → IsKnown node.IsKnown H.naming book.old.held world.old }
 {
     let mut text = String::new(alloc);
-    run(alloc, world, book, STEPS, &mut text)?;
+    run(rt, alloc, world, book, STEPS, &mut text)?;
     Ok(text)
 }
 
-fn told(alloc: Global) -> Result<String, Broken> {
+fn told<R: Threads>(rt: &R, alloc: Global) -> Result<String, Broken> {
     let mut book = Book::new(alloc, FoldHash);
     let mut world = open(alloc, &mut book, &setup(alloc))?;
-    tell(alloc, &mut world, &mut book)
+    tell(rt, alloc, &mut world, &mut book)
 }
 
 #[test]
 fn clash_at_execution(rt: HostRuntime) {
-    same(&rt, told(rt.alloc()), TEXT);
+    same(&rt, told(&rt, rt.alloc()), TEXT);
 }

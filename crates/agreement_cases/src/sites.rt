@@ -9,6 +9,7 @@ use pond_base::{ClientId, Items, MemberId, Party};
 use pond_world::{Site, events_may_come, ring_is_sound, worlds_stay_known};
 use ring_world::{Event, Said};
 use std::alloc::Global;
+use std::thread::Threads;
 
 // What happens to a site. Client 0 submits the update of a request, or appends so many bytes to `a`.
 enum Step {
@@ -157,11 +158,16 @@ fn said_line(alloc: Global, said: Said) -> Result<String, Broken> {
 }
 
 // Does an event, and tells what it answered.
-fn happens(alloc: Global, site: &mut Site<Sha1Hash>, event: Event) -> Result<String, Broken> {
+fn happens<R: Threads>(
+    rt: &R,
+    alloc: Global,
+    site: &mut Site<Sha1Hash>,
+    event: Event,
+) -> Result<String, Broken> {
     if !site.world().may(&event) {
         return Err(Broken::Unfit);
     }
-    let said = site.step(event)?;
+    let said = site.step(rt, event)?;
     said_line(alloc, said)
 }
 
@@ -175,9 +181,9 @@ fn amount(namings: u64) -> &'static str {
     }
 }
 
-fn settle(alloc: Global, site: &mut Site<Sha1Hash>) -> Result<String, Broken> {
+fn settle<R: Threads>(rt: &R, alloc: Global, site: &mut Site<Sha1Hash>) -> Result<String, Broken> {
     let before = site.book().namings();
-    site.settle()?;
+    site.settle(rt)?;
     line(alloc, amount(site.book().namings().saturating_sub(before)))
 }
 
@@ -225,13 +231,18 @@ fn event(alloc: Global, step: &Step) -> Result<Event, Broken> {
 }
 
 // What a step tells.
-fn run_step(alloc: Global, site: &mut Site<Sha1Hash>, step: &Step) -> Result<String, Broken> {
+fn run_step<R: Threads>(
+    rt: &R,
+    alloc: Global,
+    site: &mut Site<Sha1Hash>,
+    step: &Step,
+) -> Result<String, Broken> {
     match step {
-        Step::Settle => settle(alloc, site),
+        Step::Settle => settle(rt, alloc, site),
         Step::Name(digits) | Step::NameApart(digits) => name(alloc, site, digits),
         Step::Namings => numbered(alloc, "namings ", site.book().namings()),
         Step::Submitted => submitted(alloc, site),
-        _ => happens(alloc, site, event(alloc, step)?),
+        _ => happens(rt, alloc, site, event(alloc, step)?),
     }
 }
 
@@ -243,12 +254,18 @@ fn set_up(site: Site<Sha1Hash>, step: &Step) -> Site<Sha1Hash> {
     }
 }
 
-fn told(alloc: Global, f: u8, ids: &[u8], steps: &[Step]) -> Result<String, Broken> {
+fn told<R: Threads>(
+    rt: &R,
+    alloc: Global,
+    f: u8,
+    ids: &[u8],
+    steps: &[Step],
+) -> Result<String, Broken> {
     let mut text = String::new(alloc);
     let mut site = site(alloc, f, ids)?;
     for step in steps {
         site = set_up(site, step);
-        add(&mut text, run_step(alloc, &mut site, step))?;
+        add(&mut text, run_step(rt, alloc, &mut site, step))?;
     }
     Ok(text)
 }
@@ -256,7 +273,7 @@ fn told(alloc: Global, f: u8, ids: &[u8], steps: &[Step]) -> Result<String, Brok
 #[test]
 fn cases(rt: HostRuntime) {
     for (f, ids, steps, text) in CASES {
-        same(&rt, told(rt.alloc(), *f, ids, steps), text);
+        same(&rt, told(&rt, rt.alloc(), *f, ids, steps), text);
     }
     events_may_come();
     ring_is_sound();

@@ -19,6 +19,10 @@ abbrev pub keep_all : (List ℕ → List ℕ) → List (List ℕ) → Held → H
 keep_all h [] held = held
 keep_all h (string ∷ strings) held = keep_all h strings (map.insert held (h string) string)
 
+-- what was held is held still
+abbrev pub Keeps : Held → Held → Type 0
+Keeps held now = (name string : List ℕ) → map.get held name ≡ Some string → map.get now name ≡ Some string
+
 -- what was held is held still, and beside it only strings of a kind, each under its name
 pub record Grew (h : List ℕ → List ℕ) (held : Held) (Of : List ℕ → Type 0) (now : Held) : Type 0 where
   pub kept : (name string : List ℕ) → map.get held name ≡ Some string → map.get now name ≡ Some string

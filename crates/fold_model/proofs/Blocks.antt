@@ -47,7 +47,7 @@ block_in : (h : List ℕ → List ℕ) (block : ℕ) → block < 2 ^ 32 → numb
 block_in h block small = number_seam block (drop 13 (root_by h block)) small
 
 pub one_block : OneBlock
-one_block h g namings a b low high one other =
+one_block h g a b low high one other =
     let asked = request_string sample ∷ [] in
     let same : namings_by h a asked ≡ namings_by h b asked = sym (one.named asked) ∙ other.named asked in
     let roots : root_by h a ≡ root_by h b

@@ -8,7 +8,7 @@ use Rattle.guarded_update.specs.declared.request.Request.{Request}
 use Rattle.object_model.specs.Trees.{version_name, object_name}
 use Rattle.object_model.specs.Updates.{NoClause, OutOfRange, TooLong, outcome}
 use Rattle.object_model.specs.Folds.{Made, Effect, Makes, Refuses, Repeats, effect_of_outcome, same_number, with_effect, made_by, versions_of, versions_after}
-use Rattle.object_fold.specs.Executed.{effect_after, outcome_of, outcome_after}
+use Rattle.object_model.specs.Outcomes.{effect_after, outcome_of, outcome_after}
 use Rattle.ring_message.specs.declared.outcome.Outcome.TheVariants as told
 use Rattle.ring_message.specs.Spelling.{outcome_string}
 use Rattle.ring_model.specs.Messages.{Mark}
@@ -26,7 +26,7 @@ use Rattle.fold_model.specs.Laws.{RingIsRead, HeartIsVersion, SealIsManifest, Re
 use Rattle.fold_model.proofs.Versions.{version_first, versions_stay, all_seals}
 
 pub ring_is_read : RingIsRead
-ring_is_read faults clients are_faulty h block manifest = record {
+ring_is_read faults clients are_faulty h block archiving = record {
   names = λ string. refl;
   owners = λ r is. ap (λ (q : Request). q.client.0) (request_seam r is.places);
   numbers = λ r is. ap (λ (q : Request). q.number) (request_seam r is.places);
@@ -72,8 +72,8 @@ heart_of h block [] mark e = absurd (cc e)
 heart_of h block (r ∷ earlier) mark e = heart_made h block r earlier mark e
 
 pub heart_is_version : HeartIsVersion
-heart_is_version faults clients are_faulty h block manifest few events legal clash c object number name e =
-    let g = ring_of faults clients are_faulty h block manifest in
+heart_is_version faults clients are_faulty h block archiving few events legal clash c object number name e =
+    let g = ring_of faults clients are_faulty h block archiving in
     let b = believed_heart g few events legal clash c object number name e in
     let newest = heart_of h block (requests_of b.0) (record { object = object; version = number; name = name }) b.2 in
     let stay = versions_stay h block newest.label b.0 (chosen g (world g events)) b.1 in
@@ -82,11 +82,11 @@ heart_is_version faults clients are_faulty h block manifest few events legal cla
 -- ---- seals
 
 pub seal_is_manifest : SealIsManifest
-seal_is_manifest faults clients are_faulty h block manifest few events legal clash c object number name e =
-    let g = ring_of faults clients are_faulty h block manifest in
+seal_is_manifest faults clients are_faulty h block archiving few events legal clash c object number name e =
+    let g = ring_of faults clients are_faulty h block archiving in
     let b = believed_seal g few events legal clash c object number name e in
     let made : List Made = made_by h block (requests_of (chosen g (world g events))) in
-    let seal = Each-at _ (seals_by h block manifest (chosen g (world g events))) b.0 (record { object = object; version = number; name = name }) (all_seals h manifest [] made) b.1 in
+    let seal = Each-at _ (seals_by h block archiving (chosen g (world g events))) b.0 (record { object = object; version = number; name = name }) (all_seals h archiving [] made) b.1 in
     (record { label = seal.label; is_object = seal.is_object; versions = seal.versions; newer = seal.newer; among = seal.among; count = seal.count }, seal.is_name)
 
 -- ---- replies
@@ -146,8 +146,8 @@ not_before t strings k other none at = by (t (request_at other)) refl
     by true e = absurd (false≢true (sym none ∙ any_there t (requests_of strings) (request_at other) there e))
 
 pub reply_is_outcome : ReplyIsOutcome
-reply_is_outcome faults clients are_faulty h block manifest few events legal clash client number spelled e =
-    let g = ring_of faults clients are_faulty h block manifest in
+reply_is_outcome faults clients are_faulty h block archiving few events legal clash client number spelled e =
+    let g = ring_of faults clients are_faulty h block archiving in
     let all : List (List ℕ) = chosen g (world g events) in
     let b = believed_reply g few events legal clash client number spelled e in
     let xs : List (List ℕ) = b.0 in

@@ -5,7 +5,7 @@ use Rattle.std.proofs.Math.Seq.{take-append_seam, drop-append_seam}
 use Rattle.guarded_update.specs.declared.request.Request.{Request}
 use Rattle.object_model.specs.Trees.{version_name, object_name}
 use Rattle.object_model.specs.Folds.{made_by, versions_after}
-use Rattle.object_fold.proofs.ExecutedLemmas.{split}
+use Rattle.object_model.proofs.VersionLemmas.{split}
 use Rattle.ring_model.specs.Messages.{Ring, Letter, Mark}
 use Rattle.ring_model.specs.World.{world, chosen}
 use Rattle.ring_model.specs.Belief.{believed, beating, newest, named}
@@ -28,7 +28,7 @@ more_versions h block label xs ys prefix =
     omega (arith, ap length stay.1, length-append stay.0 (versions_after h block label (requests_of xs)))
 
 pub made_versions_rise : MadeVersionsRise
-made_versions_rise faults clients are_faulty h block manifest strings apart a b m n less low first second one =
+made_versions_rise faults clients are_faulty h block archiving strings apart a b m n less low first second one =
     let older = made_at h block strings a m (omega arith) first in
     let newer = made_at h block strings b n low second in
     let same : older.1.label ≡ newer.1.label = apart older.1 newer.1 older.3 newer.3 (sym older.4.is_object ∙ one ∙ newer.4.is_object) in
@@ -79,8 +79,8 @@ version_of h block label xs all m apart object prefix e =
     version_made h block label earlier xs all m (subst (λ zs. IsMade h block label earlier (requests_of zs) m) cut own) prefix
 
 pub heart_is_of_label : HeartIsOfLabel
-heart_is_of_label faults clients are_faulty h block manifest few events legal clash c label apart m e =
-    let g = ring_of faults clients are_faulty h block manifest in
+heart_is_of_label faults clients are_faulty h block archiving few events legal clash c label apart m e =
+    let g = ring_of faults clients are_faulty h block archiving in
     let got : List Letter = (world g events).got c in
     let object : List ℕ = object_name h label in
     let heart = named_parts g object got (newest g object got got) m e in

@@ -5,7 +5,7 @@ use Rattle.guarded_update.specs.declared.request.Request.{Request}
 use Rattle.object_model.specs.Trees.{version_name, object_name}
 use Rattle.object_model.specs.Updates.{NoClause, OutOfRange, TooLong}
 use Rattle.object_model.specs.Folds.{Made, Effect, Makes, Refuses, Repeats, with_effect, made_by, versions_of, versions_after}
-use Rattle.object_fold.specs.Executed.{effect_after, outcome_of}
+use Rattle.object_model.specs.Outcomes.{effect_after, outcome_of}
 use Rattle.message_model.specs.Requests.{request_at}
 use Rattle.ring_model.specs.Messages.{Mark}
 use Rattle.ring_model.specs.Laws.{IsPrefix}

@@ -5,7 +5,7 @@ use Rattle.guarded_update.specs.declared.request.Request.{Request}
 use Rattle.ring_message.specs.declared.outcome.Outcome.{Outcome}
 use Rattle.ring_message.specs.Spelling.{outcome_string}
 use Rattle.message_model.specs.Requests.{request_at}
-use Rattle.object_fold.specs.Executed.{outcome_after}
+use Rattle.object_model.specs.Outcomes.{outcome_after}
 use Rattle.ring_model.proofs.History.{same_some}
 use Rattle.ring_model.proofs.Lists.{at_short, at_some}
 use Rattle.ring_model.proofs.Stays.{at_stays}

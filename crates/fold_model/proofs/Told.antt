@@ -8,8 +8,8 @@ use Rattle.guarded_update.specs.declared.request.Request.{Request}
 use Rattle.object_model.specs.Trees.{version_name, object_name}
 use Rattle.object_model.specs.Updates.{newest, NoClause, OutOfRange, TooLong}
 use Rattle.object_model.specs.Folds.{Made, Effect, Makes, Refuses, Repeats, with_effect, made_by, versions_of, versions_after}
-use Rattle.object_fold.specs.Executed.{effect_after, outcome_of}
-use Rattle.object_fold.proofs.ExecutedLemmas.{split, one_more as one_version_more}
+use Rattle.object_model.specs.Outcomes.{effect_after, outcome_of}
+use Rattle.object_model.proofs.VersionLemmas.{split, one_more as one_version_more}
 use Rattle.ring_model.specs.Messages.{Mark}
 use Rattle.ring_model.specs.History.{passing}
 use Rattle.ring_model.specs.World.{world, chosen}
@@ -85,20 +85,20 @@ request_next h block label r earlier apart = by (effect_after h block r earlier)
     by Repeats = refl
 
 pub last_is_told : LastIsTold
-last_is_told faults clients are_faulty h block manifest few lead events legal delivered c known label apart =
-    let g = ring_of faults clients are_faulty h block manifest in
+last_is_told faults clients are_faulty h block archiving few lead events legal delivered c known label apart =
+    let g = ring_of faults clients are_faulty h block archiving in
     let all : List (List ℕ) = chosen g (world g events) in
-    all_told g few lead events legal delivered (made_versions_rise faults clients are_faulty h block manifest all apart.0) c known (object_name h label)
+    all_told g few lead events legal delivered (made_versions_rise faults clients are_faulty h block archiving all apart.0) c known (object_name h label)
     ∙ last all apart (length all) (omega arith)
     ∙ ap (newest_mark h block label) (take-length all)
   where
     last : (strings : List (List ℕ)) → LabelsApartWith h label strings → (n : ℕ) → n ≤ length strings
-        → last_made (ring_of faults clients are_faulty h block manifest) (object_name h label) strings n ≡ newest_mark h block label (take n strings)
+        → last_made (ring_of faults clients are_faulty h block archiving) (object_name h label) strings n ≡ newest_mark h block label (take n strings)
     last strings apart zero low = refl
     last strings apart (suc n) low =
         let next = one_more strings n (omega arith) in
         let earlier : List Request = requests_of (take n strings) in
-        ap (λ q. told_next h label (of_newest None (heart_after h block) q) (last_made (ring_of faults clients are_faulty h block manifest) (object_name h label) strings n)) next.2
+        ap (λ q. told_next h label (of_newest None (heart_after h block) q) (last_made (ring_of faults clients are_faulty h block archiving) (object_name h label) strings n)) next.2
         ∙ ap (told_next h label (heart_after h block next.0 earlier)) (last strings apart n (omega arith))
         ∙ request_next h block label next.0 earlier (apart.1 next.0 next.1)
         ∙ ap (λ q. mark_of_newest h block label (versions_after h block label q)) (sym next.2)

@@ -5,11 +5,11 @@ use Rattle.std.specs.Str.{bytes_eq}
 use Rattle.std.proofs.lemmas.Slice.Eq.{bytes_eq-Decides}
 use Rattle.object_model.specs.Trees.{object_name}
 use Rattle.object_model.specs.Folds.{Made, made_by, versions_of, versions_after}
-use Rattle.object_fold.proofs.ExecutedLemmas.{one_more}
+use Rattle.object_model.proofs.VersionLemmas.{one_more}
 use Rattle.ring_model.specs.Messages.{Mark}
 use Rattle.ring_model.specs.Laws.{IsPrefix}
 use Rattle.ring_model.proofs.History.{Each-append}
-use Rattle.fold_model.specs.Folds.{Manifest, requests_of, seal_of, seals_of}
+use Rattle.fold_model.specs.Folds.{Archiving, requests_of, seal_of, seals_of}
 use Rattle.fold_model.specs.Growing.{requests-append, requests_add}
 
 -- what was made newer stands in front
@@ -43,21 +43,21 @@ versions_stay h block label xs ys prefix =
 -- ---- seals
 
 -- a mark is that of a version, by its manifest
-pub record IsSealOf (h : List ℕ → List ℕ) (manifest : Manifest) (made : List Made) (mark : Mark) : Type 0 where
+pub record IsSealOf (h : List ℕ → List ℕ) (archiving : Archiving) (made : List Made) (mark : Mark) : Type 0 where
   pub label : List ℕ
   pub is_object : mark.object ≡ object_name h label
   pub versions : List (List ℕ)
   pub newer : List (List ℕ)
   pub among : newer ++ versions ≡ versions_of label made
   pub count : length versions ≡ mark.version + 1
-  pub is_name : mark.name ≡ h (manifest mark.object versions)
+  pub is_name : mark.name ≡ h (archiving.manifest mark.object versions)
 
-pub all_seals : (h : List ℕ → List ℕ) (manifest : Manifest) (newer made : List Made) → Each (IsSealOf h manifest (newer ++ made)) (seals_of h manifest made)
-all_seals h manifest newer [] = tt
-all_seals h manifest newer (m ∷ made) =
-    let older = subst (λ all. Each (IsSealOf h manifest all) (seals_of h manifest made)) (append_assoc newer (m ∷ []) made) (all_seals h manifest (newer ++ m ∷ []) made) in
+pub all_seals : (h : List ℕ → List ℕ) (archiving : Archiving) (newer made : List Made) → Each (IsSealOf h archiving (newer ++ made)) (seals_of h archiving made)
+all_seals h archiving newer [] = tt
+all_seals h archiving newer (m ∷ made) =
+    let older = subst (λ all. Each (IsSealOf h archiving all) (seals_of h archiving made)) (append_assoc newer (m ∷ []) made) (all_seals h archiving (newer ++ m ∷ []) made) in
     let front = versions_more m.label newer (m ∷ made) in
-    Each-append (IsSealOf h manifest (newer ++ m ∷ made)) (seals_of h manifest made) (seal_of h manifest m made ∷ []) older (
+    Each-append (IsSealOf h archiving (newer ++ m ∷ made)) (seals_of h archiving made) (seal_of h archiving m made ∷ []) older (
       record {
         label = m.label;
         is_object = refl;

@@ -9,7 +9,7 @@ use Rattle.ring_message.specs.declared.outcome.Outcome.{Outcome}
 use Rattle.ring_message.specs.declared.outcome.Outcome.TheVariants as told
 use Rattle.ring_message.specs.Spelling.{outcome_string}
 use Rattle.message_model.specs.Requests.{request_at}
-use Rattle.object_fold.specs.Executed.{outcome_after, strings_named}
+use Rattle.object_model.specs.Outcomes.{outcome_after, strings_named}
 use Rattle.ring_model.specs.Messages.{Mark}
 
 -- the requests that strings spell, the newest first
@@ -66,20 +66,37 @@ namings_by h block strings = of_newest [] (named_after h block) (requests_of str
 abbrev pub outcomes_by : (List ℕ → List ℕ) → ℕ → List (List ℕ) → List Outcome
 outcomes_by h block strings = outcomes_after h block (requests_of strings)
 
--- A manifest is a string for an object's name and its versions, the newest first.
-abbrev pub Manifest : Type 0
-Manifest = List ℕ → List (List ℕ) → List ℕ
+-- How a version is archived: its manifest and its fragments, for the object's name and the versions, the newest first.
+pub record Archiving : Type 0 where
+  pub manifest : List ℕ → List (List ℕ) → List ℕ
+  pub fragments : List ℕ → List (List ℕ) → List (List ℕ)
 
 -- the mark of a version by its manifest
-abbrev pub seal_of : (List ℕ → List ℕ) → Manifest → Made → List Made → Mark
-seal_of h manifest m made =
-    record { object = object_name h m.label; version = length (versions_of m.label made); name = h (manifest (object_name h m.label) (m.content ∷ versions_of m.label made)) }
+abbrev pub seal_of : (List ℕ → List ℕ) → Archiving → Made → List Made → Mark
+seal_of h archiving m made =
+    record { object = object_name h m.label; version = length (versions_of m.label made); name = h (archiving.manifest (object_name h m.label) (m.content ∷ versions_of m.label made)) }
 
 -- the versions that were made, in order of making
-abbrev pub seals_of : (List ℕ → List ℕ) → Manifest → List Made → List Mark
-seals_of h manifest [] = []
-seals_of h manifest (m ∷ made) = seals_of h manifest made ++ seal_of h manifest m made ∷ []
+abbrev pub seals_of : (List ℕ → List ℕ) → Archiving → List Made → List Mark
+seals_of h archiving [] = []
+seals_of h archiving (m ∷ made) = seals_of h archiving made ++ seal_of h archiving m made ∷ []
 
 -- the versions that requests make, in order of making
-abbrev pub seals_by : (List ℕ → List ℕ) → ℕ → Manifest → List (List ℕ) → List Mark
-seals_by h block manifest strings = seals_of h manifest (made_by h block (requests_of strings))
+abbrev pub seals_by : (List ℕ → List ℕ) → ℕ → Archiving → List (List ℕ) → List Mark
+seals_by h block archiving strings = seals_of h archiving (made_by h block (requests_of strings))
+
+-- the strings that are named as a version is archived: its fragments, and its manifest
+abbrev pub turn_of : (List ℕ → List ℕ) → Archiving → Made → List Made → List (List ℕ)
+turn_of h archiving m made =
+    let object = object_name h m.label in
+    let versions = m.content ∷ versions_of m.label made in
+    archiving.fragments object versions ++ archiving.manifest object versions ∷ []
+
+-- those of each version that was made, in order of making
+abbrev pub turns_of : (List ℕ → List ℕ) → Archiving → List Made → List (List (List ℕ))
+turns_of h archiving [] = []
+turns_of h archiving (m ∷ made) = turns_of h archiving made ++ turn_of h archiving m made ∷ []
+
+-- those of each version that requests make
+abbrev pub turns_by : (List ℕ → List ℕ) → ℕ → Archiving → List (List ℕ) → List (List (List ℕ))
+turns_by h block archiving strings = turns_of h archiving (made_by h block (requests_of strings))

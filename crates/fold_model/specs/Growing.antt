@@ -6,7 +6,7 @@ use Rattle.guarded_update.specs.declared.request.Request.{Request}
 use Rattle.object_model.specs.Folds.{Made, Effect, Makes, Refuses, Repeats, effect, with_effect, made_by}
 use Rattle.message_model.specs.Requests.{request_at}
 use Rattle.ring_model.specs.Messages.{Mark}
-use Rattle.fold_model.specs.Folds.{Manifest, requests_of, seal_of, seals_of, seals_by}
+use Rattle.fold_model.specs.Folds.{Archiving, requests_of, seal_of, seals_of, seals_by}
 
 -- the requests of two lists are those of the second one before those of the first
 pub requests-append : (xs ys : List (List ℕ)) → requests_of (xs ++ ys) ≡ requests_of ys ++ requests_of xs
@@ -34,16 +34,16 @@ requests_add h block (r ∷ late) earlier =
 abbrev pub BeginsWith : List Mark → List Mark → Type 0
 BeginsWith marks now = (rest : List Mark) × (marks ++ rest ≡ now)
 
-pub seals_begin : (h : List ℕ → List ℕ) (manifest : Manifest) (newer made : List Made) → BeginsWith (seals_of h manifest made) (seals_of h manifest (newer ++ made))
-seals_begin h manifest [] made = ([], append-nil (seals_of h manifest made))
-seals_begin h manifest (m ∷ newer) made =
-    let before = seals_begin h manifest newer made in
-    let mark = seal_of h manifest m (newer ++ made) in
-    (before.0 ++ mark ∷ [], sym (append_assoc (seals_of h manifest made) before.0 (mark ∷ [])) ∙ ap (λ marks. marks ++ mark ∷ []) before.1)
+pub seals_begin : (h : List ℕ → List ℕ) (archiving : Archiving) (newer made : List Made) → BeginsWith (seals_of h archiving made) (seals_of h archiving (newer ++ made))
+seals_begin h archiving [] made = ([], append-nil (seals_of h archiving made))
+seals_begin h archiving (m ∷ newer) made =
+    let before = seals_begin h archiving newer made in
+    let mark = seal_of h archiving m (newer ++ made) in
+    (before.0 ++ mark ∷ [], sym (append_assoc (seals_of h archiving made) before.0 (mark ∷ [])) ∙ ap (λ marks. marks ++ mark ∷ []) before.1)
 
 -- what was sealed stays sealed
-pub seals_stay : (h : List ℕ → List ℕ) (block : ℕ) (manifest : Manifest) (xs ys : List (List ℕ)) → BeginsWith (seals_by h block manifest xs) (seals_by h block manifest (xs ++ ys))
-seals_stay h block manifest xs ys =
+pub seals_stay : (h : List ℕ → List ℕ) (block : ℕ) (archiving : Archiving) (xs ys : List (List ℕ)) → BeginsWith (seals_by h block archiving xs) (seals_by h block archiving (xs ++ ys))
+seals_stay h block archiving xs ys =
     let more = requests_add h block (requests_of ys) (requests_of xs) in
     let now : made_by h block (requests_of (xs ++ ys)) ≡ more.0 ++ made_by h block (requests_of xs) = ap (made_by h block) (requests-append xs ys) ∙ more.1 in
-    subst (λ made. BeginsWith (seals_by h block manifest xs) (seals_of h manifest made)) (sym now) (seals_begin h manifest more.0 (made_by h block (requests_of xs)))
+    subst (λ made. BeginsWith (seals_by h block archiving xs) (seals_of h archiving made)) (sym now) (seals_begin h archiving more.0 (made_by h block (requests_of xs)))

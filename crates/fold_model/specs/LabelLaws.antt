@@ -20,7 +20,7 @@ LabelsApartWith h label strings = LabelsApart h strings × ((r : Request) → Co
 
 -- The versions of an object rise along any list of requests whose labels are apart.
 abbrev pub MadeVersionsRise : Type 0
-MadeVersionsRise = ForRings (λ h block manifest g. (strings : List (List ℕ)) → LabelsApart h strings → VersionsRise g strings)
+MadeVersionsRise = ForRings (λ h block archiving g. (strings : List (List ℕ)) → LabelsApart h strings → VersionsRise g strings)
 
 -- the mark of the newest of an object's versions, where that is not the empty one
 abbrev pub mark_of_newest : (List ℕ → List ℕ) → ℕ → List ℕ → List (List ℕ) → Option Mark
@@ -34,7 +34,7 @@ newest_mark h block label strings = mark_of_newest h block label (versions_after
 
 -- Where member 0 is correct and all was delivered, each client's heart of a label is that of the last version that the committed list makes of it.
 abbrev pub LastIsTold : Type 0
-LastIsTold = ForRings (λ h block manifest g. FewFaulty g → g.is_faulty 0 ≡ false → (events : List Event) → IsLegal g events → AllDelivered g (world g events)
+LastIsTold = ForRings (λ h block archiving g. FewFaulty g → g.is_faulty 0 ≡ false → (events : List Event) → IsLegal g events → AllDelivered g (world g events)
     → (c : ℕ) → c < g.clients → (label : List ℕ) → LabelsApartWith h label (chosen g (world g events))
     → heart_of g (object_name h label) ((world g events).got (Client c)) ≡ newest_mark h block label (chosen g (world g events)))
 
@@ -50,6 +50,6 @@ IsVersionOf h block label strings m =
 
 -- Each believed heart of a label is the name of that label's version in the fold of the committed list, and is none of version 0.
 abbrev pub HeartIsOfLabel : Type 0
-HeartIsOfLabel = ForRings (λ h block manifest g. FewFaulty g → (events : List Event) → IsLegal g events → NoClash g (world g events).submits
+HeartIsOfLabel = ForRings (λ h block archiving g. FewFaulty g → (events : List Event) → IsLegal g events → NoClash g (world g events).submits
     → (c : Party) (label : List ℕ) → LabelsApartWith h label (chosen g (world g events))
     → (m : Mark) → heart_of g (object_name h label) ((world g events).got c) ≡ Some m → IsVersionOf h block label (chosen g (world g events)) m)

@@ -2,12 +2,12 @@
 use Rattle.std.specs.Prelude.{◌≡◌, ℕ, Bool, List}
 use Rattle.ring_model.specs.Messages.{Ring}
 use Rattle.message_model.specs.Requests.{request_at}
-use Rattle.fold_model.specs.Folds.{Manifest, outcome_by, heart_by, namings_by, seals_by}
+use Rattle.fold_model.specs.Folds.{Archiving, outcome_by, heart_by, namings_by, seals_by, turns_by}
 use Rattle.fold_model.specs.Growing.{seals_stay}
 
 -- A ring of 3f+1 members and these clients, whose requests are those of the grammar, and whose members fold them into versions with leaves of so many bytes.
-abbrev pub ring_of : ℕ → ℕ → (ℕ → Bool) → (List ℕ → List ℕ) → ℕ → Manifest → Ring
-ring_of faults count are_faulty naming block manifest = record {
+abbrev pub ring_of : ℕ → ℕ → (ℕ → Bool) → (List ℕ → List ℕ) → ℕ → Archiving → Ring
+ring_of faults count are_faulty naming block archiving = record {
   f = faults;
   clients = count;
   slots = 65536;
@@ -17,12 +17,14 @@ ring_of faults count are_faulty naming block manifest = record {
   number = λ string. (request_at string).number;
   outcome = outcome_by naming block;
   heart = heart_by naming block;
-  seals = seals_by naming block manifest;
-  seals_stay = seals_stay naming block manifest;
+  namings = namings_by naming block;
+  seals = seals_by naming block archiving;
+  turns = turns_by naming block archiving;
+  seals_stay = seals_stay naming block archiving;
 }
 
--- The members of a ring fold what they execute, and name these strings.
-pub record FoldsAs (h : List ℕ → List ℕ) (block : ℕ) (g : Ring) (namings : List (List ℕ) → List (List ℕ)) : Type 0 where
+-- The members of a ring fold what they execute, and name the strings of the fold.
+pub record FoldsAs (h : List ℕ → List ℕ) (block : ℕ) (g : Ring) : Type 0 where
   pub outcomes : (strings : List (List ℕ)) → g.outcome strings ≡ outcome_by h block strings
   pub hearts : (strings : List (List ℕ)) → g.heart strings ≡ heart_by h block strings
-  pub named : (strings : List (List ℕ)) → namings strings ≡ namings_by h block strings
+  pub named : (strings : List (List ℕ)) → g.namings strings ≡ namings_by h block strings

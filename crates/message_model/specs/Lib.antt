@@ -3,3 +3,5 @@ pub mod Meaning
 pub mod Members
 pub mod Reading
 pub mod Requests
+pub mod Naming
+pub mod Told

@@ -16,31 +16,18 @@ use Rattle.cow_tree.specs.Views.{NodeView, TreeView}
 use Rattle.cow_tree.specs.Versions.{StandsFor, ForNext, IsTreeIn}
 use Rattle.object_fold.specs.Views.{AddedView, ShelfView, StringsView, ObjectsView}
 use Rattle.object_fold.specs.Shelves.{tree_of, trees_of, trees_in, later_at, newest_in, HasOneMore}
-use Rattle.object_fold.specs.Executed.{is_seen, in_order, AreAfter, AreKnown, SeesOneMore, KeepsTree, effect_after}
+use Rattle.object_fold.specs.Executed.{is_seen, in_order, AreAfter, AreKnown, SeesOneMore, KeepsTree}
+use Rattle.object_model.specs.Outcomes.{effect_after}
 use Rattle.cow_tree.specs.Rows.{names_in}
 use Rattle.cow_tree.specs.Changed.{changed_nodes}
 use Rattle.object_model.specs.Trees.{strings_so_far}
 use Rattle.object_fold.specs.Added.{HasJust, added_by, added_in, added_of, strings_at}
+use Rattle.object_model.proofs.VersionLemmas.{split, one_more}
 use Rattle.object_fold.proofs.Adding.{just_names}
 use Rattle.object_fold.proofs.NewStrings.{AreNew, first_added, names_nodes}
 use Rattle.object_fold.proofs.ShelfLemmas.{newest_is}
 
 -- ---- versions
-
-split_end : (xs : List (List ℕ)) (x : List ℕ) → xs ++ x ∷ [] ≡ newest (xs ++ x ∷ []) ∷ drop 1 (xs ++ x ∷ [])
-split_end [] x = refl
-split_end (y ∷ ys) x = refl
-
--- each object has a newest version, over the older ones
-pub split : (label : List ℕ) (made : List Made) → versions_of label made ≡ newest (versions_of label made) ∷ drop 1 (versions_of label made)
-split label made = split_end (map (λ (m : Made). m.content) (filter (λ (m : Made). bytes_eq m.label label) made)) []
-
--- one more version of one object
-pub one_more : (label own content : List ℕ) (made : List Made) → versions_of label (record { label = own; content = content } ∷ made) ≡ cond (bytes_eq own label) (content ∷ versions_of label made) (versions_of label made)
-one_more label own content made =
-    let rest : List Made = filter (λ (m : Made). bytes_eq m.label label) made in
-    elim (bytes_eq own label) as (λ b. map (λ (m : Made). m.content) (cond b (record { label = own; content = content } ∷ filter (λ (m : Made). bytes_eq m.label label) made) (filter (λ (m : Made). bytes_eq m.label label) made)) ++ [] ∷ []
-    ≡ cond b (content ∷ versions_of label made) (versions_of label made)) [ true ↦ refl | false ↦ refl ]
 
 -- there are no more versions of an object than were made, and version 0
 pub few_versions : (label : List ℕ) (made : List Made) → length (versions_of label made) ≤ length made + 1

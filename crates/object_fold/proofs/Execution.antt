@@ -17,11 +17,13 @@ use Rattle.cow_tree.specs.Versions.{StandsFor, ForNext, IsTreeIn, content_of}
 use Rattle.cow_tree.proofs.Standing.{stays, stood_for}
 use Rattle.object_fold.specs.Views.{ShelfView, ObjectsView}
 use Rattle.object_fold.specs.Shelves.{trees_in, trees_of, later_at, last_tree, newest_in}
-use Rattle.object_fold.specs.Executed.{is_seen, AreAfter, AreKnown, SeesOneMore, KeepsTree, effect_after, outcome_of, outcome_after, strings_of_effect, strings_named, most_for_effect, most_named}
+use Rattle.object_fold.specs.Executed.{is_seen, AreAfter, AreKnown, SeesOneMore, KeepsTree, most_for_effect, most_named}
+use Rattle.object_model.specs.Outcomes.{effect_after, outcome_of, outcome_after, strings_of_effect, strings_named}
 use Rattle.std.proofs.lemmas.List.Elements.{recursion_from_All}
 use Rattle.object_fold.proofs.HeldStrings.{all_held, held_strings}
 use Rattle.object_fold.proofs.NewStrings.{AreNew, are_new}
-use Rattle.object_fold.proofs.ExecutedLemmas.{split, newest_for, few_made, effect_first, after_repeat, after_refusal, after_made, more_known, for_made}
+use Rattle.object_model.proofs.VersionLemmas.{split}
+use Rattle.object_fold.proofs.ExecutedLemmas.{newest_for, few_made, effect_first, after_repeat, after_refusal, after_made, more_known, for_made}
 
 -- what holds of each tree holds of the last
 last_one : (P : TreeView → Type 0) (first : TreeView) (trees : List TreeView) → P first → ((k : ℕ) (d : TreeView) → k < length trees → P (slice_index_or trees k d)) → P (last_tree first trees)

@@ -4,17 +4,17 @@ use Rattle.std.specs.Str.{bytes_eq}
 use Rattle.std.proofs.lemmas.List.Elements.{All-weaker, All-contains, All-nil, Contains-push}
 use Rattle.std.proofs.lemmas.Slice.Eq.{bytes_eq-Decides}
 use Rattle.block_names.specs.Held.{Held}
-use Rattle.block_names.specs.Growth.{Holds}
-use Rattle.cow_tree.specs.Laws.{Keeps}
+use Rattle.block_names.specs.Growth.{Holds, Keeps}
 use Rattle.cow_tree.specs.Versions.{IsTreeIn}
 use Rattle.cow_tree.proofs.Standing.{stays}
 use Rattle.guarded_update.specs.declared.request.Request.{Request}
 use Rattle.object_model.specs.Trees.{version_strings}
 use Rattle.object_model.specs.Folds.{Made, Effect, Makes, Refuses, Repeats, effect, with_effect, made_by, versions_of, versions_after}
-use Rattle.object_fold.specs.Executed.{AreAfter, AreKnown, strings_of_effect, strings_named}
+use Rattle.object_fold.specs.Executed.{AreAfter, AreKnown}
+use Rattle.object_model.specs.Outcomes.{strings_of_effect, strings_named}
 use Rattle.object_fold.specs.Shelves.{trees_in, trees_of, tree_of}
 use Rattle.object_fold.specs.Views.{ObjectsView}
-use Rattle.object_fold.proofs.ExecutedLemmas.{one_more}
+use Rattle.object_model.proofs.VersionLemmas.{one_more}
 use Rattle.object_fold.proofs.HeldStrings.{held_strings}
 
 pub known_still : (h : List ℕ → List ℕ) (held now : Held) (objects : ObjectsView) → Keeps held now → AreKnown h held objects → AreKnown h now objects

@@ -6,11 +6,10 @@ use Rattle.pond_base.specs.declared.numbers.ClientId.{ClientId}
 use Rattle.pond_base.specs.declared.numbers.Version.{Version}
 use Rattle.block_names.specs.Held.{Held}
 use Rattle.guarded_update.specs.declared.request.Request.{Request}
-use Rattle.object_model.specs.Trees.{version_name, version_strings, strings_so_far}
-use Rattle.object_model.specs.Updates.{newest, NoClause, OutOfRange, TooLong}
-use Rattle.object_model.specs.Folds.{Made, Effect, Makes, Refuses, Repeats, effect, made_by, same_number, versions_of, versions_after}
-use Rattle.ring_message.specs.declared.outcome.Outcome.{Outcome}
-use Rattle.ring_message.specs.declared.outcome.Outcome.TheVariants as told
+use Rattle.object_model.specs.Trees.{strings_so_far}
+use Rattle.object_model.specs.Updates.{newest}
+use Rattle.object_model.specs.Folds.{Made, Effect, Makes, Refuses, Repeats, made_by, same_number, versions_of, versions_after}
+use Rattle.object_model.specs.Outcomes.{effect_after}
 use Rattle.cow_tree.specs.Versions.{IsTreeIn}
 use Rattle.cow_tree.specs.Namings.{most_namings}
 use Rattle.object_fold.specs.Views.{ObjectsView}
@@ -58,37 +57,11 @@ pub record KeepsTree (old new : ObjectsView) (request : Request) (tree : TreeVie
 abbrev pub ForAfter : (List ℕ → List ℕ) → ObjectsView → (ℕ → List Request → Type 0) → Type 0
 ForAfter h objects P = (block : ℕ) (requests : List Request) → AreAfter h block requests objects → P block requests
 
--- what a request does after earlier ones
-abbrev pub effect_after : (List ℕ → List ℕ) → ℕ → Request → List Request → Effect
-effect_after h block request earlier = effect h block request earlier (made_by h block earlier)
-
--- an effect on an object of these versions, as an outcome
-abbrev pub outcome_of : (List ℕ → List ℕ) → ℕ → Effect → List (List ℕ) → Outcome
-outcome_of h block (Makes content) versions = told.Made (record { 0 = length versions }) (version_name h block (content ∷ versions))
-outcome_of h block (Refuses NoClause) versions = told.NoClause
-outcome_of h block (Refuses OutOfRange) versions = told.OutOfRange
-outcome_of h block (Refuses TooLong) versions = told.TooLong
-outcome_of h block Repeats versions = told.Repeat
-
--- the strings of the version that an effect makes
-abbrev pub strings_of_effect : (List ℕ → List ℕ) → ℕ → Effect → List (List ℕ) → List (List ℕ)
-strings_of_effect h block (Makes content) versions = version_strings h block content versions
-strings_of_effect h block (Refuses refusal) versions = []
-strings_of_effect h block Repeats versions = []
-
 -- the most strings that are named for it
 abbrev pub most_for_effect : ℕ → Effect → List (List ℕ) → ℕ
 most_for_effect block (Makes content) versions = most_namings block (newest versions) content
 most_for_effect block (Refuses refusal) versions = 0
 most_for_effect block Repeats versions = 0
-
--- the outcome of a request after earlier ones
-abbrev pub outcome_after : (List ℕ → List ℕ) → ℕ → Request → List Request → Outcome
-outcome_after h block request earlier = outcome_of h block (effect_after h block request earlier) (versions_after h block request.label earlier)
-
--- the strings that a request names after earlier ones
-abbrev pub strings_named : (List ℕ → List ℕ) → ℕ → Request → List Request → List (List ℕ)
-strings_named h block request earlier = strings_of_effect h block (effect_after h block request earlier) (versions_after h block request.label earlier)
 
 -- the most names that it has a book answer
 abbrev pub most_named : (List ℕ → List ℕ) → ℕ → Request → List Request → ℕ

@@ -1,11 +1,11 @@
 -- What follows from the definitions.
 use Rattle.std.specs.Prelude.{ℕ, ◌≤◌, List, ◌∷◌, length, All}
 use Rattle.block_names.specs.Held.{Held}
-use Rattle.block_names.specs.Growth.{Holds}
+use Rattle.block_names.specs.Growth.{Holds, Keeps}
 use Rattle.guarded_update.specs.declared.request.Request.{Request}
-use Rattle.cow_tree.specs.Laws.{Keeps}
 use Rattle.object_fold.specs.Views.{ObjectsView}
-use Rattle.object_fold.specs.Executed.{AreAfter, AreKnown, strings_named}
+use Rattle.object_fold.specs.Executed.{AreAfter, AreKnown}
+use Rattle.object_model.specs.Outcomes.{strings_named}
 
 -- objects whose strings a book holds stay so while the book grows
 abbrev pub ObjectsStayKnown : Type 0

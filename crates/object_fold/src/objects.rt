@@ -10,7 +10,8 @@ ghost use Rattle.cow_tree.specs.Versions.{IsTreeIn};
 ghost use Rattle.object_fold.specs.Shelves.{tree_at};
 ghost use Rattle.object_fold.specs.Added.{added_at};
 ghost use Rattle.object_fold.specs.Choice.{refusal_of};
-ghost use Rattle.object_fold.specs.Executed.{AreAfter, AreKnown, ForAfter, KeepsTree, in_order, outcome_of, outcome_after, strings_named, most_named};
+ghost use Rattle.object_fold.specs.Executed.{AreAfter, AreKnown, ForAfter, KeepsTree, in_order, most_named};
+ghost use Rattle.object_model.specs.Outcomes.{outcome_of, outcome_after, strings_named};
 
 use crate::added::Added;
 use crate::decision::decide;

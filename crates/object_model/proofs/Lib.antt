@@ -2,3 +2,4 @@ pub mod LawLemmas
 pub mod NewLemmas
 pub mod PieceLemmas
 pub mod RootLemmas
+pub mod VersionLemmas

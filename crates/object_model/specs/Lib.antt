@@ -3,3 +3,4 @@ pub mod Laws
 pub mod Pieces
 pub mod Trees
 pub mod Updates
+pub mod Outcomes

@@ -3,12 +3,11 @@ use Rattle.std.proofs.Common.{◌≡◌, ℕ, zero, suc, ◌+◌, ◌≤◌, Lis
 use Rattle.std.specs.List.{flat_map}
 use Rattle.std.proofs.lemmas.List.Elements.{Contains-append_left, Contains-append_right}
 use Rattle.block_names.specs.Held.{Held}
-use Rattle.block_names.specs.Growth.{keep_all, Grew, IsClashIn}
+use Rattle.block_names.specs.Growth.{keep_all, Grew, IsClashIn, Keeps}
 use Rattle.block_names.specs.Clashes.{AreHeld}
 use Rattle.block_names.specs.declared.fault.NameFault.{NameFault}
 use Rattle.block_names.proofs.Grown.{grew_then, clash_wider, keep_append}
 use Rattle.block_names.proofs.Clashed.{held_then}
-use Rattle.cow_tree.specs.Laws.{Keeps}
 use Rattle.ring_message.specs.declared.message.Out.{Out}
 use Rattle.ring_model.specs.Messages.{Ring, Letter, Packet, Member, Client}
 use Rattle.ring_model.specs.Messages as model
@@ -20,10 +19,11 @@ use Rattle.message_model.specs.Meaning.{who}
 use Rattle.message_model.specs.Reading.{IsRingOf, asked_in}
 use Rattle.ring_member.specs.Members.{sent_to_members}
 use Rattle.message_model.specs.Members.{IsMember, AreToMembers}
-use Rattle.ring_node.specs.Naming.{Namings, IsSeat, strings_executed, strings_for}
+use Rattle.ring_model.specs.Seats.{IsSeat}
+use Rattle.message_model.specs.Naming.{strings_executed, strings_for}
 use Rattle.pond_node.specs.declared.node.Node.{Node}
 use Rattle.pond_node.specs.Answers.{AreSeated, longer}
-use Rattle.pond_node.specs.Standing.{HasDone, NodeStands}
+use Rattle.pond_node.specs.Standing.{HasDone, HasAll}
 use Rattle.pond_node.proofs.Steps.{same_naming}
 use Rattle.pond_node.proofs.Newly.{newly_answers, prefix_short}
 use Rattle.pond_node.proofs.Named.{grew_wider}
@@ -48,11 +48,11 @@ run_short {Y} has (suc n) s = by (has s) (run_short has n (s + 1))
     by (Some y) low = omega arith
 
 -- what a node stands for, by the naming function of the book
-pub by_book : (h : List ℕ → List ℕ) (node : Node) (g : Ring) (namings : Namings) (i : ℕ) (got : List Letter) → IsRingOf h g → NodeStands node g namings i got → HasDone h (executed g got) node g namings i got
-by_book h node g namings i got ring st = subst (λ n. HasDone n (executed g got) node g namings i got) (same_naming h g ring) st
+pub by_book : (h : List ℕ → List ℕ) (node : Node) (g : Ring) (i : ℕ) (got : List Letter) → IsRingOf h g → HasAll node g i got → HasDone h (executed g got) node g i got
+by_book h node g i got ring st = subst (λ n. HasDone n (executed g got) node g i got) (same_naming h g ring) st
 
-pub by_ring : (h : List ℕ → List ℕ) (node : Node) (g : Ring) (namings : Namings) (i : ℕ) (got : List Letter) → IsRingOf h g → HasDone h (executed g got) node g namings i got → NodeStands node g namings i got
-by_ring h node g namings i got ring st = subst (λ n. HasDone n (executed g got) node g namings i got) (sym (same_naming h g ring)) st
+pub by_ring : (h : List ℕ → List ℕ) (node : Node) (g : Ring) (i : ℕ) (got : List Letter) → IsRingOf h g → HasDone h (executed g got) node g i got → HasAll node g i got
+by_ring h node g i got ring st = subst (λ n. HasDone n (executed g got) node g i got) (sym (same_naming h g ring)) st
 
 -- ---- what is sent
 
@@ -64,15 +64,15 @@ all_caused g i got l sent out is more =
 
 -- ---- what is named
 
-module _ (h : List ℕ → List ℕ) (g : Ring) (namings : Namings) (got : List Letter) (l : Letter) where
+module _ (h : List ℕ → List ℕ) (g : Ring) (got : List Letter) (l : Letter) where
   abbrev asked : List (List ℕ)
   asked = asked_in l.from l.message
 
   abbrev done : List (List ℕ)
-  done = strings_executed g namings got (l ∷ got)
+  done = strings_executed g got (l ∷ got)
 
   abbrev all : List (List ℕ)
-  all = strings_for g namings got l
+  all = strings_for g got l
 
   pub all_held : (old between now : Held) → between ≡ keep_all h asked old → now ≡ keep_all h done between → now ≡ keep_all h all old
   all_held old between now first then = then ∙ ap (keep_all h done) first ∙ sym (keep_append h asked done old)

@@ -2,17 +2,16 @@
 use Rattle.std.proofs.Common.{◌≡◌, ℕ, List, [], ◌∷◌, ◌++◌, Contains, Option, Some, IfSome, refl, sym, ap, ◌∙◌, subst}
 use Rattle.std.proofs.lemmas.List.Elements.{Contains-append_left, Contains-append_right}
 use Rattle.block_names.specs.Held.{Held}
-use Rattle.block_names.specs.Growth.{keep_all, Grew, IsClashIn}
+use Rattle.block_names.specs.Growth.{keep_all, Grew, IsClashIn, Keeps}
 use Rattle.block_names.specs.Clashes.{AreHeld}
 use Rattle.block_names.specs.declared.fault.NameFault.{NameFault}
 use Rattle.block_names.proofs.Grown.{grew_none, grew_then, clash_wider, keep_append}
 use Rattle.block_names.proofs.Clashed.{held_then}
-use Rattle.cow_tree.specs.Laws.{Keeps}
 use Rattle.guarded_update.specs.declared.request.Request.{Request}
 use Rattle.guarded_update.specs.Fitting.{IsRequest}
 use Rattle.guarded_update.specs.Spelling.{request_string}
 use Rattle.ring_message.specs.declared.outcome.Outcome.{Outcome}
-use Rattle.object_fold.specs.Executed.{outcome_after, strings_named}
+use Rattle.object_model.specs.Outcomes.{outcome_after, strings_named}
 use Rattle.fold_model.specs.Folds.{requests_of, label_named, namings_by}
 use Rattle.pond_node.proofs.Steps.{named_is}
 

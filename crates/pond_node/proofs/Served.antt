@@ -12,18 +12,17 @@ use Rattle.fold_model.specs.Folds.{namings_by}
 use Rattle.fold_model.specs.Rings.{FoldsAs}
 use Rattle.fold_model.proofs.Blocks.{one_block}
 use Rattle.fold_model.proofs.Outcomes.{take_next}
-use Rattle.ring_node.specs.Naming.{Namings}
 use Rattle.pond_node.specs.declared.node.Node.{Node}
-use Rattle.pond_node.specs.Standing.{AreOf, IsAsked, HasDone, NodeStands}
+use Rattle.pond_node.specs.Standing.{AreOf, IsAsked, HasDone, HasAll}
 use Rattle.pond_node.proofs.Steps.{same_naming}
 use Rattle.pond_node.proofs.Letters.{executed_asked}
 
 -- a node that nothing was delivered to
-pub starts : (h : List ℕ → List ℕ) (node : Node) (g : Ring) (namings : Namings) (i : ℕ) → IsRingOf h g → StandsFor g i node.member [] → g.clients ≡ node.clients → FoldsAs h node.block g namings
-    → AreOf h node.block [] node.objects node.outcomes → NodeStands node g namings i []
-starts h node g namings i ring member clients folds done =
-    subst (λ n. HasDone n (executed g []) node g namings i []) (sym (same_naming h g ring))
-    (subst (λ xs. HasDone h xs node g namings i []) (sym (run_none (committed g []) g.slots 1 refl))
+pub starts : (h : List ℕ → List ℕ) (node : Node) (g : Ring) (i : ℕ) → IsRingOf h g → StandsFor g i node.member [] → g.clients ≡ node.clients → FoldsAs h node.block g
+    → AreOf h node.block [] node.objects node.outcomes → HasAll node g i []
+starts h node g i ring member clients folds done =
+    subst (λ n. HasDone n (executed g []) node g i []) (sym (same_naming h g ring))
+    (subst (λ xs. HasDone h xs node g i []) (sym (run_none (committed g []) g.slots 1 refl))
     (record { member_stands = member; clients_are = clients; folds = folds; asked = tt; done_is = done }))
 
 -- ---- the slot that comes next
@@ -41,12 +40,12 @@ asked_at g got zero string all e = absurd (cc e)
 asked_at g got (suc k) string all e = Each-at IsRequestString (executed g got) k string (executed_asked g got all) e
 
 -- a slot that the member has executed has a request
-pub has_request : (h : List ℕ → List ℕ) (node : Node) (g : Ring) (namings : Namings) (i : ℕ) (got : List Letter) (done : List (List ℕ)) (slot : ℕ) (found : Option (List ℕ)) → HasDone h done node g namings i got → 1 ≤ slot → slot ≤ length (executed g got)
+pub has_request : (h : List ℕ → List ℕ) (node : Node) (g : Ring) (i : ℕ) (got : List Letter) (done : List (List ℕ)) (slot : ℕ) (found : Option (List ℕ)) → HasDone h done node g i got → 1 ≤ slot → slot ≤ length (executed g got)
     → ((g : Ring) (i : ℕ) (got : List Letter) → StandsFor g i node.member got → found ≡ entry (executed g got) slot) → found ≡ None → ⊥
-has_request h node g namings i got done slot found st low high looks none = no_entry (executed g got) slot low high (sym (looks g i got st.member_stands) ∙ none)
+has_request h node g i got done slot found st low high looks none = no_entry (executed g got) slot low high (sym (looks g i got st.member_stands) ∙ none)
 
-module _ (h : List ℕ → List ℕ) (node : Node) (g : Ring) (namings : Namings) (i : ℕ) (got : List Letter) (slot : ℕ) (string : List ℕ) (found : Option (List ℕ))
-    (st : HasDone h (take (slot - 1) (executed g got)) node g namings i got) (looks : (g : Ring) (i : ℕ) (got : List Letter) → StandsFor g i node.member got → found ≡ entry (executed g got) slot) (some : found ≡ Some string) where
+module _ (h : List ℕ → List ℕ) (node : Node) (g : Ring) (i : ℕ) (got : List Letter) (slot : ℕ) (string : List ℕ) (found : Option (List ℕ))
+    (st : HasDone h (take (slot - 1) (executed g got)) node g i got) (looks : (g : Ring) (i : ℕ) (got : List Letter) → StandsFor g i node.member got → found ≡ entry (executed g got) slot) (some : found ≡ Some string) where
   there : entry (executed g got) slot ≡ Some string
   there = sym (looks g i got st.member_stands) ∙ some
 
@@ -56,15 +55,15 @@ module _ (h : List ℕ → List ℕ) (node : Node) (g : Ring) (namings : Namings
   pub is_taken : take (slot - 1) (executed g got) ++ string ∷ [] ≡ take slot (executed g got)
   is_taken = taken_at (executed g got) slot string there
 
-  pub is_named : namings_by h node.block (take (slot - 1) (executed g got) ++ string ∷ []) ≡ namings (take slot (executed g got))
+  pub is_named : namings_by h node.block (take (slot - 1) (executed g got) ++ string ∷ []) ≡ g.namings (take slot (executed g got))
   is_named = ap (namings_by h node.block) is_taken ∙ sym (st.folds.named (take slot (executed g got)))
 
 -- ---- what the node has done, by the block of the ring
 
-pub by_block : (node : Node) (g : Ring) (namings : Namings) (i : ℕ) (got : List Letter) → NodeStands node g namings i got → (block : ℕ) → block < 2 ^ 32 → FoldsAs g.h block g namings
+pub by_block : (node : Node) (g : Ring) (i : ℕ) (got : List Letter) → HasAll node g i got → (block : ℕ) → block < 2 ^ 32 → FoldsAs g.h block g
     → AreOf g.h block (executed g got) node.objects node.outcomes
-by_block node g namings i got st block small folds =
-    subst (λ b. AreOf g.h b (executed g got) node.objects node.outcomes) (one_block g.h g namings node.block block (omega (arith, node.short_block)) small st.folds folds) st.done_is
+by_block node g i got st block small folds =
+    subst (λ b. AreOf g.h b (executed g got) node.objects node.outcomes) (one_block g.h g node.block block (omega (arith, node.short_block)) small st.folds folds) st.done_is
 
 -- a place counted from 1 is one less when it is counted from 0
 pub entry_at : {X : Type 0} (xs : List X) (slot : ℕ) → 1 ≤ slot → slice_get xs (slot - 1) ≡ entry xs slot

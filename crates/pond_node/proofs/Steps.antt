@@ -15,14 +15,14 @@ use Rattle.object_model.specs.Trees.{object_name}
 use Rattle.object_model.specs.Updates.{NoClause, OutOfRange, TooLong}
 use Rattle.object_model.specs.Folds.{Made, Effect, Makes, Refuses, Repeats, with_effect, made_by, versions_after}
 use Rattle.object_fold.specs.Views.{ObjectsView}
-use Rattle.object_fold.specs.Executed.{AreAfter, AreKnown, ForAfter, effect_after, outcome_of, outcome_after, strings_named}
+use Rattle.object_fold.specs.Executed.{AreAfter, AreKnown, ForAfter}
+use Rattle.object_model.specs.Outcomes.{effect_after, outcome_of, outcome_after, strings_named}
 use Rattle.object_fold.proofs.ExecutedLemmas.{length-in_order}
 use Rattle.ring_model.specs.Messages.{Ring}
 use Rattle.ring_model.specs.Member.{answers, hearts}
 use Rattle.fold_model.specs.Folds.{requests_of, mark_of, label_named, outcomes_after, outcomes_by, namings_by, named_after, heart_after, of_newest}
 use Rattle.fold_model.specs.Growing.{requests-append}
 use Rattle.fold_model.specs.Rings.{FoldsAs}
-use Rattle.ring_node.specs.Naming.{Namings}
 use Rattle.pond_node.specs.Answers.{reply_from}
 use Rattle.pond_node.specs.Standing.{AreOf, AddsOne}
 
@@ -66,9 +66,9 @@ module _ (h : List ℕ → List ℕ) (block : ℕ) (before : List (List ℕ)) (s
       at_end [] = refl
       at_end (x ∷ xs) = at_end xs
 
-  pub answers_are : (g : Ring) (namings : Namings) (i : ℕ) (outcome : Outcome) → IsRingOf h g → FoldsAs h block g namings → outcome ≡ outcome_after h block r (requests_of before)
+  pub answers_are : (g : Ring) (i : ℕ) (outcome : Outcome) → IsRingOf h g → FoldsAs h block g → outcome ≡ outcome_after h block r (requests_of before)
       → answers g i (before ++ string ∷ []) ≡ reply_from i r.client.0 r.number (outcome_string outcome) ∷ hearts g i (mark_of (object_name h r.label) outcome)
-  answers_are g namings i outcome ring folds e =
+  answers_are g i outcome ring folds e =
       let owner : g.owner string ≡ r.client.0 = ap g.owner spelled ∙ ring.owners r is in
       let number : g.number string ≡ r.number = ap g.number spelled ∙ ring.numbers r is in
       let spoken : g.outcome (before ++ string ∷ []) ≡ outcome_string outcome

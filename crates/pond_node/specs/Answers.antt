@@ -4,7 +4,7 @@ use Rattle.std.specs.List.{AllByRecursion, range_with_len}
 use Rattle.ring_message.specs.declared.message.Out.{Out}
 use Rattle.ring_model.specs.Messages.{Packet, Member, Client, Reply}
 use Rattle.message_model.specs.Meaning.{who}
-use Rattle.ring_node.specs.Naming.{IsSeat}
+use Rattle.ring_model.specs.Seats.{IsSeat}
 
 -- a client's reply from a member
 abbrev pub reply_from : ℕ → ℕ → ℕ → List ℕ → Packet

@@ -12,7 +12,6 @@ use Rattle.object_fold.specs.Executed.{AreAfter, AreKnown}
 use Rattle.fold_model.specs.Folds.{requests_of, outcomes_by}
 use Rattle.fold_model.specs.Rings.{FoldsAs}
 use Rattle.ring_member.specs.Members.{StandsFor}
-use Rattle.ring_node.specs.Naming.{Namings}
 use Rattle.pond_node.specs.declared.node.Node.{Node}
 
 -- These are the objects and the outcomes after requests, by their strings.
@@ -42,16 +41,21 @@ IsAsked (Sealed object version name) = Unit {0}
 IsAsked Foreign = Unit {0}
 
 -- The member of a node stands for letters, and the node has executed these requests of it, in a ring that folds them by this naming function.
-pub record HasDone (h : List ℕ → List ℕ) (done : List (List ℕ)) (node : Node) (g : Ring) (namings : Namings) (i : ℕ) (got : List Letter) : Type 0 where
+pub record HasDone (h : List ℕ → List ℕ) (done : List (List ℕ)) (node : Node) (g : Ring) (i : ℕ) (got : List Letter) : Type 0 where
   pub member_stands : StandsFor g i node.member got
   pub clients_are : g.clients ≡ node.clients
-  pub folds : FoldsAs h node.block g namings
+  pub folds : FoldsAs h node.block g
   pub asked : AllByRecursion (λ l. IsAsked l.message) got
   pub done_is : AreOf h node.block done node.objects node.outcomes
 
--- Node i of a ring whose executions name these strings stands for letters: it has executed all that its member has.
-abbrev pub NodeStands : Node → Ring → Namings → ℕ → List Letter → Type 0
-NodeStands node g namings i got = HasDone g.h (executed g got) node g namings i got
+-- Node i of a ring has executed all that its member has.
+abbrev pub HasAll : Node → Ring → ℕ → List Letter → Type 0
+HasAll node g i got = HasDone g.h (executed g got) node g i got
+
+-- Node i of a ring stands for letters, and has archived so many versions.
+pub record NodeStands (node : Node) (g : Ring) (i : ℕ) (got : List Letter) (archived : ℕ) : Type 0 where
+  pub done : HasAll node g i got
+  pub archived_are : archived ≡ node.archived
 
 -- A book holds all that a node named, and no more versions were made than requests executed.
 pub record IsKnown (h : List ℕ → List ℕ) (held : Held) (node : Node) : Type 0 where
@@ -59,11 +63,11 @@ pub record IsKnown (h : List ℕ → List ℕ) (held : Held) (node : Node) : Typ
   pub few : length node.objects.made ≤ length node.outcomes
 
 -- whatever letters a node stands for that has executed only the first of its member's requests, a fact holds of them and of those requests
-abbrev pub ForLater : (List ℕ → List ℕ) → Node → (Ring → Namings → ℕ → List Letter → List (List ℕ) → Type 0) → Type 0
+abbrev pub ForLater : (List ℕ → List ℕ) → Node → (Ring → ℕ → List Letter → List (List ℕ) → Type 0) → Type 0
 ForLater h node P =
-    (g : Ring) (namings : Namings) (i : ℕ) (got : List Letter) (done : List (List ℕ)) → HasDone h done node g namings i got → IsPrefix done (executed g got) → P g namings i got done
+    (g : Ring) (i : ℕ) (got : List Letter) (done : List (List ℕ)) → HasDone h done node g i got → IsPrefix done (executed g got) → P g i got done
 
 -- whatever letters a node stands for that has executed its member's requests up to a slot, and not that slot, a fact holds of them
-abbrev pub ForNext : (List ℕ → List ℕ) → ℕ → Node → (Ring → Namings → ℕ → List Letter → Type 0) → Type 0
+abbrev pub ForNext : (List ℕ → List ℕ) → ℕ → Node → (Ring → ℕ → List Letter → Type 0) → Type 0
 ForNext h slot node P =
-    (g : Ring) (namings : Namings) (i : ℕ) (got : List Letter) → 1 ≤ slot → slot ≤ length (executed g got) → HasDone h (take (slot - 1) (executed g got)) node g namings i got → P g namings i got
+    (g : Ring) (i : ℕ) (got : List Letter) → 1 ≤ slot → slot ≤ length (executed g got) → HasDone h (take (slot - 1) (executed g got)) node g i got → P g i got

@@ -1,11 +1,10 @@
 // The execution of one request.
 ghost use Rattle.std.specs.Prelude.{◌≡◌, ◌≤◌, ◌<◌, ◌+◌, ◌^◌, ◌++◌, ◌∷◌, [], ℕ, List, length, map, Some, Contains, IfOk, IfErr, IfSome, OnOk};
-ghost use Rattle.block_names.specs.Growth.{keep_all, Grew, IsClashIn};
+ghost use Rattle.block_names.specs.Growth.{keep_all, Grew, IsClashIn, Keeps};
 ghost use Rattle.block_names.specs.Clashes.{AreHeld};
 ghost use Rattle.guarded_update.specs.declared.request.Request.{Request as Asked};
 ghost use Rattle.guarded_update.specs.Fitting.{IsRequest};
 ghost use Rattle.guarded_update.specs.Spelling.{request_string};
-ghost use Rattle.cow_tree.specs.Laws.{Keeps};
 ghost use Rattle.object_fold.specs.Executed.{AreKnown};
 ghost use Rattle.ring_model.specs.Messages.{Ring};
 ghost use Rattle.ring_model.specs.Member.{answers};
@@ -13,7 +12,6 @@ ghost use Rattle.message_model.specs.Meaning.{packet};
 ghost use Rattle.message_model.specs.Reading.{IsRingOf};
 ghost use Rattle.fold_model.specs.Folds.{namings_by};
 ghost use Rattle.fold_model.specs.Rings.{FoldsAs};
-ghost use Rattle.ring_node.specs.Naming.{Namings};
 ghost use Rattle.pond_node.specs.Answers.{AreSeated};
 ghost use Rattle.pond_node.specs.Standing.{AreOf, ForBefore, AddsOne};
 
@@ -43,7 +41,7 @@ pub(crate) fn execute<H: Hash160 + Drop>(
     requires known { AreKnown H.naming book.old.held objects.old }
     requires room { length objects.old.made + 1 < 2 ^ 32 }
     ensures done { OnOk result (ForBefore H.naming objects.old outcomes.old string.now (λ block before. AreOf H.naming block (before ++ string.now ∷ []) objects.new outcomes.new)) }
-    ensures sent { OnOk result (ForBefore H.naming objects.old outcomes.old string.now (λ block before. (g : Ring) (namings : Namings) (i : ℕ) → IsRingOf H.naming g → FoldsAs H.naming block g namings → g.clients ≡ clients
+    ensures sent { OnOk result (ForBefore H.naming objects.old outcomes.old string.now (λ block before. (g : Ring) (i : ℕ) → IsRingOf H.naming g → FoldsAs H.naming block g → g.clients ≡ clients
         → map (packet i) out.new.items ≡ map (packet i) out.old.items ++ answers g i (before ++ string.now ∷ []))) }
     ensures seats { OnOk result (AreSeated out.old.items → AreSeated out.new.items) }
     ensures known { OnOk result (AreKnown H.naming book.new.held objects.new) }

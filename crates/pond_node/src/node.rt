@@ -18,6 +18,8 @@ pub struct Node {
     pub(crate) member: Member,
     pub(crate) objects: Objects,
     pub(crate) outcomes: Items<Outcome>,
+    /// How many versions it archived.
+    pub(crate) archived: u32,
     ghost few_clients: { clients ≤ MOST_CLIENTS },
     ghost short_block: { block ≤ MOST_BLOCK },
 }

@@ -1,16 +1,14 @@
 // The execution of what the member of a node has executed.
 ghost use Rattle.std.specs.Prelude.{◌≡◌, ◌≤◌, ◌<◌, ◌+◌, ◌-◌, ◌^◌, ◌++◌, ℕ, List, length, map, take, Contains, IfOk, IfErr, OnOk};
 ghost use Rattle.std.specs.List.{flat_map};
-ghost use Rattle.block_names.specs.Growth.{keep_all, Grew, IsClashIn};
+ghost use Rattle.block_names.specs.Growth.{keep_all, Grew, IsClashIn, Keeps};
 ghost use Rattle.block_names.specs.Clashes.{AreHeld};
-ghost use Rattle.cow_tree.specs.Laws.{Keeps};
 ghost use Rattle.object_fold.specs.Executed.{AreKnown};
 ghost use Rattle.ring_model.specs.Messages.{Ring, Letter};
 ghost use Rattle.ring_model.specs.Member.{answers, executed};
 ghost use Rattle.ring_model.specs.Laws.{IsPrefix};
 ghost use Rattle.message_model.specs.Meaning.{packet};
 ghost use Rattle.message_model.specs.Reading.{IsRingOf};
-ghost use Rattle.ring_node.specs.Naming.{Namings};
 ghost use Rattle.pond_node.specs.Answers.{AreSeated, longer};
 ghost use Rattle.pond_node.specs.Standing.{HasDone, IsKnown, AddsOne, ForNext, ForLater};
 
@@ -29,16 +27,17 @@ impl Node {
         out: &mut Vec<Out>,
     ) -> Result<(), NameFault>
         requires known { IsKnown H.naming book.old.held self.old }
-        ensures done { OnOk result (ForLater H.naming self.old (λ g namings i got done. HasDone H.naming (executed g got) self.new g namings i got)) }
-        ensures sent { OnOk result (ForLater H.naming self.old (λ g namings i got done. IsRingOf H.naming g
+        ensures done { OnOk result (ForLater H.naming self.old (λ g i got done. HasDone H.naming (executed g got) self.new g i got)) }
+        ensures sent { OnOk result (ForLater H.naming self.old (λ g i got done. IsRingOf H.naming g
             → map (packet i) out.new.items ≡ map (packet i) out.old.items ++ flat_map (answers g i) (longer (length done) (executed g got)))) }
         ensures seats { OnOk result (AreSeated out.old.items → AreSeated out.new.items) }
         ensures known { OnOk result (IsKnown H.naming book.new.held self.new) }
+        ensures archived { self.new.archived ≡ self.old.archived }
         ensures keeps { Keeps book.old.held book.new.held }
-        ensures held { OnOk result (ForLater H.naming self.old (λ g namings i got done. book.new.held ≡ keep_all H.naming (flat_map namings (longer (length done) (executed g got))) book.old.held)) }
-        ensures all { OnOk result (ForLater H.naming self.old (λ g namings i got done. AreHeld H.naming book.new.held (flat_map namings (longer (length done) (executed g got))))) }
-        ensures grew { ForLater H.naming self.old (λ g namings i got done. Grew H.naming book.old.held (Contains (flat_map namings (longer (length done) (executed g got)))) book.new.held) }
-        ensures fault { IfErr result (λ fault. ForLater H.naming self.old (λ g namings i got done. IsClashIn H.naming book.new.held (Contains (flat_map namings (longer (length done) (executed g got)))) fault)) }
+        ensures held { OnOk result (ForLater H.naming self.old (λ g i got done. book.new.held ≡ keep_all H.naming (flat_map g.namings (longer (length done) (executed g got))) book.old.held)) }
+        ensures all { OnOk result (ForLater H.naming self.old (λ g i got done. AreHeld H.naming book.new.held (flat_map g.namings (longer (length done) (executed g got))))) }
+        ensures grew { ForLater H.naming self.old (λ g i got done. Grew H.naming book.old.held (Contains (flat_map g.namings (longer (length done) (executed g got)))) book.new.held) }
+        ensures fault { IfErr result (λ fault. ForLater H.naming self.old (λ g i got done. IsClashIn H.naming book.new.held (Contains (flat_map g.namings (longer (length done) (executed g got)))) fault)) }
     {
         let first = self.outcomes.len();
         let last = self.member.executed() as usize;
@@ -60,17 +59,18 @@ impl Node {
     ) -> Result<(), NameFault>
         requires known { AreKnown H.naming book.old.held self.old.objects }
         requires room { length self.old.objects.made + 1 < 2 ^ 32 }
-        ensures done { OnOk result (ForNext H.naming seq.0 self.old (λ g namings i got. HasDone H.naming (take seq.0 (executed g got)) self.new g namings i got)) }
-        ensures sent { OnOk result (ForNext H.naming seq.0 self.old (λ g namings i got. IsRingOf H.naming g
+        ensures done { OnOk result (ForNext H.naming seq.0 self.old (λ g i got. HasDone H.naming (take seq.0 (executed g got)) self.new g i got)) }
+        ensures sent { OnOk result (ForNext H.naming seq.0 self.old (λ g i got. IsRingOf H.naming g
             → map (packet i) out.new.items ≡ map (packet i) out.old.items ++ answers g i (take seq.0 (executed g got)))) }
         ensures seats { OnOk result (AreSeated out.old.items → AreSeated out.new.items) }
         ensures known { OnOk result (AreKnown H.naming book.new.held self.new.objects) }
+        ensures archived { self.new.archived ≡ self.old.archived }
         ensures one { OnOk result (AddsOne self.old.objects self.new.objects self.old.outcomes self.new.outcomes) }
         ensures keeps { Keeps book.old.held book.new.held }
-        ensures held { OnOk result (ForNext H.naming seq.0 self.old (λ g namings i got. book.new.held ≡ keep_all H.naming (namings (take seq.0 (executed g got))) book.old.held)) }
-        ensures all { OnOk result (ForNext H.naming seq.0 self.old (λ g namings i got. AreHeld H.naming book.new.held (namings (take seq.0 (executed g got))))) }
-        ensures grew { ForNext H.naming seq.0 self.old (λ g namings i got. Grew H.naming book.old.held (Contains (namings (take seq.0 (executed g got)))) book.new.held) }
-        ensures fault { IfErr result (λ fault. ForNext H.naming seq.0 self.old (λ g namings i got. IsClashIn H.naming book.new.held (Contains (namings (take seq.0 (executed g got)))) fault)) }
+        ensures held { OnOk result (ForNext H.naming seq.0 self.old (λ g i got. book.new.held ≡ keep_all H.naming (g.namings (take seq.0 (executed g got))) book.old.held)) }
+        ensures all { OnOk result (ForNext H.naming seq.0 self.old (λ g i got. AreHeld H.naming book.new.held (g.namings (take seq.0 (executed g got))))) }
+        ensures grew { ForNext H.naming seq.0 self.old (λ g i got. Grew H.naming book.old.held (Contains (g.namings (take seq.0 (executed g got)))) book.new.held) }
+        ensures fault { IfErr result (λ fault. ForNext H.naming seq.0 self.old (λ g i got. IsClashIn H.naming book.new.held (Contains (g.namings (take seq.0 (executed g got)))) fault)) }
     {
         let Some(string) = self.member.request(seq) else {
             return Ok(());

@@ -6,7 +6,6 @@ ghost use Rattle.object_model.specs.Trees.{version_strings};
 ghost use Rattle.ring_model.specs.Messages.{Ring};
 ghost use Rattle.message_model.specs.Reading.{IsRingOf};
 ghost use Rattle.fold_model.specs.Rings.{FoldsAs};
-ghost use Rattle.ring_node.specs.Naming.{Namings};
 ghost use Rattle.pond_node.specs.Standing.{NodeStands, IsKnown};
 
 use crate::Node;
@@ -35,8 +34,8 @@ impl Node {
         requires clients { clients ≤ MOST_CLIENTS }
         requires least { LEAST_BLOCK ≤ block }
         requires most { block ≤ MOST_BLOCK }
-        ensures stands { IfOk result (λ node. (g : Ring) (namings : Namings) → IsRingOf H.naming g → g.f ≡ f → g.clients ≡ clients → g.slots ≡ MOST_SLOTS → FoldsAs H.naming block g namings
-            → NodeStands node g namings id.0 []) }
+        ensures stands { IfOk result (λ node. (g : Ring) → IsRingOf H.naming g → g.f ≡ f → g.clients ≡ clients → g.slots ≡ MOST_SLOTS → FoldsAs H.naming block g
+            → NodeStands node g id.0 [] 0) }
         ensures known { IfOk result (IsKnown H.naming book.new.held) }
         ensures held { OnOk result (book.new.held ≡ keep_all H.naming (version_strings H.naming block [] []) book.old.held) }
         ensures all { OnOk result (AreHeld H.naming book.new.held (version_strings H.naming block [] [])) }
@@ -54,6 +53,7 @@ impl Node {
             member: Member::new(alloc, id, f),
             objects,
             outcomes: Items::new(alloc),
+            archived: 0,
         })
     }
 }

@@ -5,7 +5,7 @@ use Rattle.std.specs.List.{AllByRecursion as Each, flat_map}
 use Rattle.std.proofs.lemmas.Bool.{cases_lt}
 use Rattle.std.proofs.lemmas.List.{get_or_append_left, get_or_push}
 use Rattle.block_names.specs.Held.{Held}
-use Rattle.block_names.specs.Growth.{keep_all, Grew}
+use Rattle.block_names.specs.Growth.{keep_all, Grew, Keeps}
 use Rattle.block_names.specs.Clashes.{AreHeld}
 use Rattle.block_names.proofs.Grown.{grew_none, grew_then, now_held, held_same}
 use Rattle.guarded_update.specs.declared.setup.Setup.{Setup}
@@ -13,9 +13,8 @@ use Rattle.tree_format.specs.Strings.{root_string, leaf_string, height_over}
 use Rattle.object_model.specs.Trees.{version_strings, root_of, rows_from}
 use Rattle.object_model.proofs.PieceLemmas.{pieces_nil}
 use Rattle.object_fold.proofs.Kept.{known_still}
-use Rattle.cow_tree.specs.Laws.{Keeps}
 use Rattle.ring_model.proofs.History.{Each-weaker, Each-append}
-use Rattle.fold_model.specs.Folds.{Manifest, namings_by}
+use Rattle.fold_model.specs.Folds.{Archiving}
 use Rattle.pond_node.specs.declared.node.Node.{Node}
 use Rattle.pond_node.specs.Standing.{NodeStands, IsKnown}
 use Rattle.pond_world.specs.Setups.{ring_by}
@@ -39,7 +38,7 @@ kept_again h block held some =
 -- some nodes stand, each as the member of its number, before any letter
 abbrev pub AllStand : (List ℕ → List ℕ) → Setup → List Node → Type 0
 AllStand h setup nodes =
-    (manifest : Manifest) (i : ℕ) (d : Node) → i < length nodes → NodeStands (get_or nodes i d) (ring_by h setup manifest) (namings_by h setup.block) i []
+    (archiving : Archiving) (i : ℕ) (d : Node) → i < length nodes → NodeStands (get_or nodes i d) (ring_by h setup archiving) i [] 0
 
 -- so many nodes are made, and nothing but the strings of the empty version was named for them
 pub record AreMade (h : List ℕ → List ℕ) (setup : Setup) (first : Held) (nodes : List Node) (now : Held) (count : ℕ) : Type 0 where
@@ -54,7 +53,7 @@ pub record AreMade (h : List ℕ → List ℕ) (setup : Setup) (first : Held) (n
 pub none_made : (h : List ℕ → List ℕ) (setup : Setup) (held : Held) (nodes : List Node) → nodes ≡ [] → AreMade h setup held nodes held 0
 none_made h setup held nodes none = record {
   size = ap length none;
-  stand = λ manifest i d low. absurd (omega (arith, ap length none));
+  stand = λ archiving i d low. absurd (omega (arith, ap length none));
   known = subst (Each (IsKnown h held)) (sym none) tt;
   again = refl;
   held = λ low. absurd (omega arith);
@@ -72,7 +71,7 @@ node_known h held now node keeps is = record { objects_known = known_still h hel
 
 -- one node more
 pub one_made : (h : List ℕ → List ℕ) (setup : Setup) (first old new : Held) (nodes all : List Node) (node : Node) (count : ℕ) → 0 < setup.block → AreMade h setup first nodes old count
-    → all ≡ nodes ++ node ∷ [] → ((manifest : Manifest) → NodeStands node (ring_by h setup manifest) (namings_by h setup.block) count []) → IsKnown h new node
+    → all ≡ nodes ++ node ∷ [] → ((archiving : Archiving) → NodeStands node (ring_by h setup archiving) count [] 0) → IsKnown h new node
     → new ≡ keep_all h (first_strings h setup) old → AreHeld h new (first_strings h setup) → Grew h old (Contains (first_strings h setup)) new → AreMade h setup first all new (count + 1)
 one_made h setup first old new nodes all node count some m is stands known held there grew = record {
   size = omega (arith, ap length is, length-append nodes (node ∷ []), m.size);
@@ -86,12 +85,12 @@ one_made h setup first old new nodes all node count some m is stands known held 
 }
   where
     each : AllStand h setup (nodes ++ node ∷ [])
-    each manifest i d low =
+    each archiving i d low =
         ⊎_elim
-        (λ less. subst (λ n. NodeStands n (ring_by h setup manifest) (namings_by h setup.block) i []) (sym (get_or_append_left nodes (node ∷ []) d i less)) (m.stand manifest i d less))
+        (λ less. subst (λ n. NodeStands n (ring_by h setup archiving) i [] 0) (sym (get_or_append_left nodes (node ∷ []) d i less)) (m.stand archiving i d less))
         (λ more. let same : length nodes ≡ i = omega (arith, low, more, length-append nodes (node ∷ [])) in
-        subst (λ n. NodeStands n (ring_by h setup manifest) (namings_by h setup.block) i []) (sym (get_or_push nodes node d i same))
-        (subst (λ k. NodeStands node (ring_by h setup manifest) (namings_by h setup.block) k []) (sym m.size ∙ same) (stands manifest)))
+        subst (λ n. NodeStands n (ring_by h setup archiving) i [] 0) (sym (get_or_push nodes node d i same))
+        (subst (λ k. NodeStands node (ring_by h setup archiving) k [] 0) (sym m.size ∙ same) (stands archiving)))
         (cases_lt i (length nodes))
 
 -- what holds of each item holds at each place

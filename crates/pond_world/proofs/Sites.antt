@@ -2,12 +2,11 @@
 use Rattle.std.proofs.Common.{◌≡◌, ℕ, List, get_or, refl, subst, Bool, true, false, Result, Ok, Err, OnOk, OnErr, sym, ◌∙◌}
 use Rattle.block_names.specs.Held.{Held}
 use Rattle.block_names.specs.Faults.{step_fault}
-use Rattle.block_names.specs.Growth.{IsClashIn}
+use Rattle.block_names.specs.Growth.{IsClashIn, Keeps}
 use Rattle.block_names.specs.Clashes.{IsClashAmong}
 use Rattle.block_names.specs.declared.fault.NameFault.{NameFault}
 use Rattle.block_names.specs.declared.fault.NameFault.TheVariants.{Clash, Memory}
 use Rattle.block_names.specs.declared.fault.StepFault.{StepFault}
-use Rattle.cow_tree.specs.Laws.{Keeps}
 use Rattle.pond_node.specs.declared.node.Node.{Node}
 use Rattle.pond_node.specs.Standing as node
 use Rattle.ring_world.specs.declared.state.World.{World}

@@ -8,7 +8,7 @@ use Rattle.object_model.specs.Trees.{object_name, version_name}
 use Rattle.ring_model.specs.Messages.{Ring, Client}
 use Rattle.ring_model.specs.World.{Event, world, chosen}
 use Rattle.ring_model.specs.Belief.{believed, replied, beating, sealing, heart_of}
-use Rattle.fold_model.specs.Folds.{Manifest, namings_by}
+use Rattle.fold_model.specs.Folds.{Archiving}
 use Rattle.fold_model.specs.Laws.{MakesVersion, IsAnswered}
 use Rattle.fold_model.specs.LabelLaws.{newest_mark}
 use Rattle.ring_world.specs.declared.state.World.{World}
@@ -23,9 +23,9 @@ HeartsAreVersions h block g events client = (object : List ℕ) (number : ℕ) (
     → (made : MakesVersion h block (chosen g (world g events)) object number) × (name ≡ version_name h block made.versions)
 
 -- each manifest that it believes of a version is the name of that version's manifest
-abbrev pub SealsAreManifests : (List ℕ → List ℕ) → ℕ → Manifest → Ring → List Event → ℕ → Type 0
-SealsAreManifests h block manifest g events client = (object : List ℕ) (number : ℕ) (name : List ℕ) → believed g (sealing object number) ((world g events).got (Client client)) ≡ Some name
-    → (made : MakesVersion h block (chosen g (world g events)) object number) × (name ≡ h (manifest object made.versions))
+abbrev pub SealsAreManifests : (List ℕ → List ℕ) → ℕ → Archiving → Ring → List Event → ℕ → Type 0
+SealsAreManifests h block archiving g events client = (object : List ℕ) (number : ℕ) (name : List ℕ) → believed g (sealing object number) ((world g events).got (Client client)) ≡ Some name
+    → (made : MakesVersion h block (chosen g (world g events)) object number) × (name ≡ h (archiving.manifest object made.versions))
 
 -- each outcome that it believes of a request is that at one of the slots of the committed list that hold the request, and where it is not that of a repeat at the first of them
 abbrev pub RepliesAreOutcomes : (List ℕ → List ℕ) → ℕ → Ring → List Event → ℕ → Type 0
@@ -38,6 +38,6 @@ HoldsTheLast h held block g events client = (label : List ℕ) → Holds h held 
     → heart_of g (object_name h label) ((world g events).got (Client client)) ≡ newest_mark h block label (chosen g (world g events))
 
 -- whatever setup a world's ring is that of, and whatever events the world stands for, a fact holds of them
-abbrev pub ForSetups : (List ℕ → List ℕ) → World Node → (ℕ → Manifest → Ring → List Event → Type 0) → Type 0
-ForSetups h w P = (setup : Setup) (manifest : Manifest) (events : List Event) → IsSetup setup → WorldStands NodeStands (ring_by h setup manifest) (namings_by h setup.block) w events
-    → P setup.block manifest (ring_by h setup manifest) events
+abbrev pub ForSetups : (List ℕ → List ℕ) → World Node → (ℕ → Archiving → Ring → List Event → Type 0) → Type 0
+ForSetups h w P = (setup : Setup) (archiving : Archiving) (events : List Event) → IsSetup setup → WorldStands NodeStands (ring_by h setup archiving) w events
+    → P setup.block archiving (ring_by h setup archiving) events

@@ -5,7 +5,7 @@ use Rattle.pond_base.specs.declared.numbers.MemberId.{MemberId}
 use Rattle.guarded_update.specs.declared.setup.Setup.{Setup}
 use Rattle.ring_model.specs.Messages.{Ring, FewFaulty}
 use Rattle.message_model.specs.Reading.{IsRingOf}
-use Rattle.fold_model.specs.Folds.{Manifest}
+use Rattle.fold_model.specs.Folds.{Archiving}
 use Rattle.fold_model.specs.Rings.{ring_of}
 
 -- a setup within the limits, which declares no more members faulty than the ring tolerates
@@ -22,9 +22,9 @@ abbrev pub is_among : List MemberId → ℕ → Bool
 is_among members i = list_any (λ (member : MemberId). member.0 == i) members
 
 -- the ring of a setup, whose members fold what they execute, and name strings by h
-abbrev pub ring_by : (List ℕ → List ℕ) → Setup → Manifest → Ring
-ring_by h setup manifest = ring_of setup.f setup.clients (is_among setup.faulty) h setup.block manifest
+abbrev pub ring_by : (List ℕ → List ℕ) → Setup → Archiving → Ring
+ring_by h setup archiving = ring_of setup.f setup.clients (is_among setup.faulty) h setup.block archiving
 
 -- The ring of a setup reads requests as the grammar does, and few of its members are faulty.
 abbrev pub RingIsSound : Type 0
-RingIsSound = (h : List ℕ → List ℕ) (setup : Setup) (manifest : Manifest) → IsSetup setup → IsRingOf h (ring_by h setup manifest) × FewFaulty (ring_by h setup manifest)
+RingIsSound = (h : List ℕ → List ℕ) (setup : Setup) (archiving : Archiving) → IsSetup setup → IsRingOf h (ring_by h setup archiving) × FewFaulty (ring_by h setup archiving)

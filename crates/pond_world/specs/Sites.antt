@@ -1,9 +1,8 @@
 -- A world with its book.
 use Rattle.std.specs.Prelude.{◌≡◌, ℕ, false, List}
 use Rattle.block_names.specs.Held.{Held}
-use Rattle.block_names.specs.Growth.{Grew, IsClashIn}
+use Rattle.block_names.specs.Growth.{Grew, IsClashIn, Keeps}
 use Rattle.block_names.specs.declared.fault.NameFault.{NameFault}
-use Rattle.cow_tree.specs.Laws.{Keeps}
 use Rattle.ring_world.specs.declared.state.World.{World}
 use Rattle.ring_world.specs.Worlds.{IsKnown}
 use Rattle.pond_node.specs.declared.node.Node.{Node}

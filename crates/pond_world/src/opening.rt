@@ -4,7 +4,7 @@ ghost use Rattle.std.specs.List.{AllByRecursion, range_with_len};
 ghost use Rattle.block_names.specs.Growth.{keep_all, Grew, IsClashIn};
 ghost use Rattle.block_names.specs.Clashes.{AreHeld, NoneClash, IsClashAmong};
 ghost use Rattle.object_model.specs.Trees.{version_strings};
-ghost use Rattle.fold_model.specs.Folds.{Manifest, namings_by};
+ghost use Rattle.fold_model.specs.Folds.{Archiving};
 ghost use Rattle.pond_node.specs.declared.node.Node.{Node};
 ghost use Rattle.pond_node.specs.Standing as node;
 ghost use Rattle.pond_node.specs.Standing.{NodeStands};
@@ -34,7 +34,7 @@ pub fn open<H: Hash160 + Drop>(
     setup: &Setup,
 ) -> Result<World<Node>, NameFault>
     requires { IsSetup setup.now }
-    ensures stands { IfOk result (λ world. (manifest : Manifest) → WorldStands NodeStands (ring_by H.naming setup.now manifest) (namings_by H.naming setup.now.block) world []) }
+    ensures stands { IfOk result (λ world. (archiving : Archiving) → WorldStands NodeStands (ring_by H.naming setup.now archiving) world []) }
     ensures skips { IfOk result (λ world. PassNothing (skips world)) }
     ensures known { IfOk result (IsKnown node.IsKnown H.naming book.new.held) }
     ensures held { OnOk result (book.new.held ≡ keep_all H.naming (version_strings H.naming setup.now.block [] []) book.old.held) }
@@ -65,8 +65,8 @@ fn nodes_of<H: Hash160 + Drop>(
 ) -> Result<Vec<Node>, NameFault>
     requires { IsSetup setup.now }
     ensures count { IfOk result (λ nodes. length nodes.items ≡ 3 * setup.now.f + 1) }
-    ensures stand { IfOk result (λ nodes. (manifest : Manifest) (i : ℕ) (d : Node) → i < length nodes.items
-        → NodeStands (slice_index_or nodes.items i d) (ring_by H.naming setup.now manifest) (namings_by H.naming setup.now.block) i []) }
+    ensures stand { IfOk result (λ nodes. (archiving : Archiving) (i : ℕ) (d : Node) → i < length nodes.items
+        → NodeStands (slice_index_or nodes.items i d) (ring_by H.naming setup.now archiving) i [] 0) }
     ensures known { IfOk result (λ nodes. AllByRecursion (node.IsKnown H.naming book.new.held) nodes.items) }
     ensures held { OnOk result (book.new.held ≡ keep_all H.naming (version_strings H.naming setup.now.block [] []) book.old.held) }
     ensures all { OnOk result (AreHeld H.naming book.new.held (version_strings H.naming setup.now.block [] [])) }

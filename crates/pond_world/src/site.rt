@@ -1,9 +1,8 @@
 // A world with its book of names.
 ghost use Rattle.std.specs.Prelude.{◌≡◌, ◌==◌, ◌<◌, ◌&&◌, ◌||◌, not, ℕ, true, false, List, [], ◌∷◌, ◌++◌, filter, length, Contains, IfOk, IfErr, OnOk, OnErr};
 ghost use Rattle.std.specs.FinMap as map;
-ghost use Rattle.block_names.specs.Growth.{keep_all, Grew, IsClashIn};
+ghost use Rattle.block_names.specs.Growth.{keep_all, Grew, IsClashIn, Keeps};
 ghost use Rattle.block_names.specs.Clashes.{AreHeld, NoneClash, IsClashAmong};
-ghost use Rattle.cow_tree.specs.Laws.{Keeps};
 ghost use Rattle.object_model.specs.Trees.{version_strings};
 ghost use Rattle.ring_model.specs.Member.{executed};
 ghost use Rattle.ring_model.specs.Messages.{Ring, FewFaulty, Party as Who, Member as member, Client as by, same_party};
@@ -12,17 +11,18 @@ ghost use Rattle.ring_model.specs.World.{world, chosen};
 ghost use Rattle.ring_model.specs.Laws.{AllDelivered, IsCorrect, IsPrefix, NoClash};
 ghost use Rattle.message_model.specs.Meaning.{who};
 ghost use Rattle.client_core.specs.Clients.{ClientStands};
-ghost use Rattle.fold_model.specs.Folds.{Manifest, namings_by};
+ghost use Rattle.fold_model.specs.Folds.{Archiving};
 ghost use Rattle.pond_node.specs.Standing as node;
 ghost use Rattle.pond_node.specs.Standing.{NodeStands};
-ghost use Rattle.ring_node.specs.Naming.{Namings};
 ghost use Rattle.ring_world.specs.Beliefs.{AreAnswered};
-ghost use Rattle.ring_world.specs.Deliveries.{settled, named_along, IsNamedIn};
+ghost use Rattle.ring_model.specs.Deliveries.{settled};
+ghost use Rattle.message_model.specs.Naming.{named_along, IsNamedIn};
 ghost use Rattle.ring_world.specs.Settles.{Settles};
-ghost use Rattle.ring_mail.specs.Places.{Place};
-ghost use Rattle.ring_mail.specs.Seats.{IsSeat};
+ghost use Rattle.ring_model.specs.Places.{Place};
+ghost use Rattle.ring_model.specs.Seats.{IsSeat};
 ghost use Rattle.ring_mail.specs.Skips.{is_skipped};
-ghost use Rattle.ring_world.specs.Skipping.{skips, stands_at, PassNothing};
+ghost use Rattle.ring_world.specs.Skipping.{skips, PassNothing};
+ghost use Rattle.message_model.specs.Told.{stands_at};
 ghost use Rattle.ring_world.specs.Steps.{IsStep, Ends, IsStepClash, IsStepClashAmong, said_of};
 ghost use Rattle.ring_world.specs.Worlds.{WorldStands, IsKnown, ForEvents, ForStep, event_of, strings_of};
 ghost use Rattle.pond_world.specs.Beliefs.{ForSetups, HeartsAreVersions, SealsAreManifests, RepliesAreOutcomes, HoldsTheLast};
@@ -39,6 +39,7 @@ use pond_node::Node;
 use ring_world::{Event, Said, World};
 use std::alloc::Global;
 use std::marker::Model;
+use std::thread::Threads;
 
 /// A world of members with their objects, and the book of all strings that were named: unless the world
 /// has ended, the book holds all that the world named.
@@ -68,7 +69,7 @@ impl<H: Hash160 + Drop> Site<H> {
     /// The site of a setup before any event. The root string of the empty version is named.
     pub fn open(alloc: Global, hash: H, setup: &Setup) -> Result<Site<H>, NameFault>
         requires { IsSetup setup.now }
-        ensures stands { IfOk result (λ site. (manifest : Manifest) → WorldStands NodeStands (ring_by H.naming setup.now manifest) (namings_by H.naming setup.now.block) site.world []) }
+        ensures stands { IfOk result (λ site. (archiving : Archiving) → WorldStands NodeStands (ring_by H.naming setup.now archiving) site.world []) }
         ensures skips { IfOk result (λ site. PassNothing (skips site.world)) }
         ensures held { IfOk result (λ site. site.held ≡ keep_all H.naming (version_strings H.naming setup.now.block [] []) map.empty) }
         ensures all { IfOk result (λ site. AreHeld H.naming site.held (version_strings H.naming setup.now.block [] [])) }
@@ -89,51 +90,51 @@ impl<H: Hash160 + Drop> Site<H> {
     /// answered another fault, and then nothing changes; after any other fault the world has ended.
     /// `Clash` is answered only where two different strings of one name are among those that the book held
     /// and those that the event names, and where two are, `Ok` is not.
-    pub fn step(&mut self, event: Event) -> Result<Said, StepFault>
+    pub fn step<R: Threads>(&mut self, rt: &R, event: Event) -> Result<Said, StepFault>
         requires { IsStep self.old.world event }
-        ensures stands { OnOk result (ForStep NodeStands H.naming self.old.world event (λ g namings events. WorldStands NodeStands g namings self.new.world (event_of g (world g events) event ∷ events))) }
-        ensures said { IfOk result (λ said. ForStep NodeStands H.naming self.old.world event (λ g namings events. said ≡ said_of g (world g events) (event_of g (world g events) event))) }
-        ensures grows { OnOk result (ForStep NodeStands H.naming self.old.world event (λ g namings events. FewFaulty g → NoClash g (world g (event_of g (world g events) event ∷ events)).submits
+        ensures stands { OnOk result (ForStep NodeStands H.naming self.old.world event (λ g events. WorldStands NodeStands g self.new.world (event_of g (world g events) event ∷ events))) }
+        ensures said { IfOk result (λ said. ForStep NodeStands H.naming self.old.world event (λ g events. said ≡ said_of g (world g events) (event_of g (world g events) event))) }
+        ensures grows { OnOk result (ForStep NodeStands H.naming self.old.world event (λ g events. FewFaulty g → NoClash g (world g (event_of g (world g events) event ∷ events)).submits
             → IsPrefix (chosen g (world g events)) (chosen g (world g (event_of g (world g events) event ∷ events))))) }
         ensures ends { Ends self.old.world self.new.world result }
         ensures skips { skips self.new.world ≡ skips self.old.world }
         ensures keeps { Keeps self.old.held self.new.held }
         ensures spent { self.old.world.ended ≡ true → self.new.held ≡ self.old.held }
-        ensures held { OnOk result (ForStep NodeStands H.naming self.old.world event (λ g namings events. self.new.held ≡ keep_all H.naming (strings_of g namings (world g events) event) self.old.held)) }
-        ensures all { OnOk result (ForStep NodeStands H.naming self.old.world event (λ g namings events. AreHeld H.naming self.new.held (strings_of g namings (world g events) event))) }
-        ensures apart { OnOk result (ForStep NodeStands H.naming self.old.world event (λ g namings events. NoneClash H.naming self.old.held (Contains (strings_of g namings (world g events) event)))) }
-        ensures grew { ForStep NodeStands H.naming self.old.world event (λ g namings events. Grew H.naming self.old.held (Contains (strings_of g namings (world g events) event)) self.new.held) }
-        ensures fault { IfErr result (λ fault. ForStep NodeStands H.naming self.old.world event (λ g namings events. IsStepClash H.naming self.new.held (Contains (strings_of g namings (world g events) event)) fault)) }
-        ensures clash { IfErr result (λ fault. ForStep NodeStands H.naming self.old.world event (λ g namings events. IsStepClashAmong H.naming self.old.held (Contains (strings_of g namings (world g events) event)) fault)) }
+        ensures held { OnOk result (ForStep NodeStands H.naming self.old.world event (λ g events. self.new.held ≡ keep_all H.naming (strings_of g (world g events) event) self.old.held)) }
+        ensures all { OnOk result (ForStep NodeStands H.naming self.old.world event (λ g events. AreHeld H.naming self.new.held (strings_of g (world g events) event))) }
+        ensures apart { OnOk result (ForStep NodeStands H.naming self.old.world event (λ g events. NoneClash H.naming self.old.held (Contains (strings_of g (world g events) event)))) }
+        ensures grew { ForStep NodeStands H.naming self.old.world event (λ g events. Grew H.naming self.old.held (Contains (strings_of g (world g events) event)) self.new.held) }
+        ensures fault { IfErr result (λ fault. ForStep NodeStands H.naming self.old.world event (λ g events. IsStepClash H.naming self.new.held (Contains (strings_of g (world g events) event)) fault)) }
+        ensures clash { IfErr result (λ fault. ForStep NodeStands H.naming self.old.world event (λ g events. IsStepClashAmong H.naming self.old.held (Contains (strings_of g (world g events) event)) fault)) }
     {
-        self.world.step(&mut self.book, event)
+        self.world.step(rt, &mut self.book, event)
     }
 
     /// Delivers, in the order of sending, each message that was never delivered and is not passed over,
     /// those too that are sent meanwhile, and answers how many. Faults are as in [`Site::step`].
-    pub fn settle(&mut self) -> Result<u32, StepFault>
-        ensures settles { IfOk result (λ n. ForEvents NodeStands H.naming self.old.world (λ g namings events. Settles NodeStands g namings (is_skipped (skips self.old.world)) events self.new.world n)) }
-        ensures delivered { IfOk result (λ n. PassNothing (skips self.old.world) → ForEvents NodeStands H.naming self.old.world (λ g namings events.
+    pub fn settle<R: Threads>(&mut self, rt: &R) -> Result<u32, StepFault>
+        ensures settles { IfOk result (λ n. ForEvents NodeStands H.naming self.old.world (λ g events. Settles NodeStands g (is_skipped (skips self.old.world)) events self.new.world n)) }
+        ensures delivered { IfOk result (λ n. PassNothing (skips self.old.world) → ForEvents NodeStands H.naming self.old.world (λ g events.
             AllDelivered g (world g (settled g (is_skipped (skips self.old.world)) events n ++ events)))) }
-        ensures executed { IfOk result (λ n. PassNothing (skips self.old.world) → ForEvents NodeStands H.naming self.old.world (λ g namings events. FewFaulty g → g.is_faulty 0 ≡ false
+        ensures executed { IfOk result (λ n. PassNothing (skips self.old.world) → ForEvents NodeStands H.naming self.old.world (λ g events. FewFaulty g → g.is_faulty 0 ≡ false
             → (i : ℕ) → IsCorrect g i → (r : List ℕ) → Contains (world g (settled g (is_skipped (skips self.old.world)) events n ++ events)).submits r
             → Contains (executed g ((world g (settled g (is_skipped (skips self.old.world)) events n ++ events)).got (member i))) r)) }
-        ensures grows { IfOk result (λ n. ForEvents NodeStands H.naming self.old.world (λ g namings events. FewFaulty g → NoClash g (world g (settled g (is_skipped (skips self.old.world)) events n ++ events)).submits
+        ensures grows { IfOk result (λ n. ForEvents NodeStands H.naming self.old.world (λ g events. FewFaulty g → NoClash g (world g (settled g (is_skipped (skips self.old.world)) events n ++ events)).submits
             → IsPrefix (chosen g (world g events)) (chosen g (world g (settled g (is_skipped (skips self.old.world)) events n ++ events))))) }
         ensures ends { Ends self.old.world self.new.world result }
         ensures skips { skips self.new.world ≡ skips self.old.world }
         ensures keeps { Keeps self.old.held self.new.held }
         ensures spent { self.old.world.ended ≡ true → self.new.held ≡ self.old.held }
-        ensures held { IfOk result (λ n. ForEvents NodeStands H.naming self.old.world (λ g namings events.
-            self.new.held ≡ keep_all H.naming (named_along g namings events (settled g (is_skipped (skips self.old.world)) events n)) self.old.held)) }
-        ensures all { IfOk result (λ n. ForEvents NodeStands H.naming self.old.world (λ g namings events.
-            AreHeld H.naming self.new.held (named_along g namings events (settled g (is_skipped (skips self.old.world)) events n)))) }
-        ensures apart { OnOk result (ForEvents NodeStands H.naming self.old.world (λ g namings events. NoneClash H.naming self.old.held (IsNamedIn g namings (is_skipped (skips self.old.world)) events))) }
-        ensures grew { ForEvents NodeStands H.naming self.old.world (λ g namings events. Grew H.naming self.old.held (IsNamedIn g namings (is_skipped (skips self.old.world)) events) self.new.held) }
-        ensures fault { IfErr result (λ fault. ForEvents NodeStands H.naming self.old.world (λ g namings events. IsStepClash H.naming self.new.held (IsNamedIn g namings (is_skipped (skips self.old.world)) events) fault)) }
-        ensures clash { IfErr result (λ fault. ForEvents NodeStands H.naming self.old.world (λ g namings events. IsStepClashAmong H.naming self.old.held (IsNamedIn g namings (is_skipped (skips self.old.world)) events) fault)) }
+        ensures held { IfOk result (λ n. ForEvents NodeStands H.naming self.old.world (λ g events.
+            self.new.held ≡ keep_all H.naming (named_along g events (settled g (is_skipped (skips self.old.world)) events n)) self.old.held)) }
+        ensures all { IfOk result (λ n. ForEvents NodeStands H.naming self.old.world (λ g events.
+            AreHeld H.naming self.new.held (named_along g events (settled g (is_skipped (skips self.old.world)) events n)))) }
+        ensures apart { OnOk result (ForEvents NodeStands H.naming self.old.world (λ g events. NoneClash H.naming self.old.held (IsNamedIn g (is_skipped (skips self.old.world)) events))) }
+        ensures grew { ForEvents NodeStands H.naming self.old.world (λ g events. Grew H.naming self.old.held (IsNamedIn g (is_skipped (skips self.old.world)) events) self.new.held) }
+        ensures fault { IfErr result (λ fault. ForEvents NodeStands H.naming self.old.world (λ g events. IsStepClash H.naming self.new.held (IsNamedIn g (is_skipped (skips self.old.world)) events) fault)) }
+        ensures clash { IfErr result (λ fault. ForEvents NodeStands H.naming self.old.world (λ g events. IsStepClashAmong H.naming self.old.held (IsNamedIn g (is_skipped (skips self.old.world)) events) fault)) }
     {
-        self.world.settle(&mut self.book)
+        self.world.settle(rt, &mut self.book)
     }
 
     /// The message at this place, from 1 on, is lost, sent or not yet sent: settles pass over it. Where
@@ -142,7 +143,7 @@ impl<H: Hash160 + Drop> Site<H> {
         requires { IsSeat (who from) × IsSeat (who to) × (0 < place) }
         ensures lost { OnOk result ((a : Place) → (skips self.new.world).lost a ≡ ((skips self.old.world).lost a || stands_at a (from, to, place))) }
         ensures muted { OnOk result ((skips self.new.world).muted ≡ (skips self.old.world).muted) }
-        ensures stands { OnOk result ((g : Ring) (namings : Namings) (events : List model.Event) → WorldStands NodeStands g namings self.old.world events → WorldStands NodeStands g namings self.new.world events) }
+        ensures stands { OnOk result ((g : Ring) (events : List model.Event) → WorldStands NodeStands g self.old.world events → WorldStands NodeStands g self.new.world events) }
         ensures held { self.new.held ≡ self.old.held }
         ensures going { OnOk result (self.new.world.ended ≡ self.old.world.ended) }
         ensures ends { OnErr result (self.new.world.ended ≡ true) }
@@ -155,7 +156,7 @@ impl<H: Hash160 + Drop> Site<H> {
         requires { IsSeat (who party) }
         ensures muted { OnOk result ((p : Who) → (skips self.new.world).muted p ≡ ((skips self.old.world).muted p || same_party (who party) p)) }
         ensures lost { OnOk result ((skips self.new.world).lost ≡ (skips self.old.world).lost) }
-        ensures stands { OnOk result ((g : Ring) (namings : Namings) (events : List model.Event) → WorldStands NodeStands g namings self.old.world events → WorldStands NodeStands g namings self.new.world events) }
+        ensures stands { OnOk result ((g : Ring) (events : List model.Event) → WorldStands NodeStands g self.old.world events → WorldStands NodeStands g self.new.world events) }
         ensures held { self.new.held ≡ self.old.held }
         ensures going { OnOk result (self.new.world.ended ≡ self.old.world.ended) }
         ensures ends { OnErr result (self.new.world.ended ≡ true) }
@@ -169,7 +170,7 @@ impl<H: Hash160 + Drop> Site<H> {
         requires { IsSeat (who party) }
         ensures muted { OnOk result ((p : Who) → (skips self.new.world).muted p ≡ ((skips self.old.world).muted p && not (same_party (who party) p))) }
         ensures lost { OnOk result ((skips self.new.world).lost ≡ (skips self.old.world).lost) }
-        ensures stands { OnOk result ((g : Ring) (namings : Namings) (events : List model.Event) → WorldStands NodeStands g namings self.old.world events → WorldStands NodeStands g namings self.new.world events) }
+        ensures stands { OnOk result ((g : Ring) (events : List model.Event) → WorldStands NodeStands g self.old.world events → WorldStands NodeStands g self.new.world events) }
         ensures held { self.new.held ≡ self.old.held }
         ensures going { OnOk result (self.new.world.ended ≡ self.old.world.ended) }
         ensures ends { OnErr result (self.new.world.ended ≡ true) }
@@ -222,13 +223,13 @@ impl<H: Hash160 + Drop> Site<H> {
     /// as it has of each label that was submitted. Takes no memory.
     pub fn client(&self, client: ClientId) -> &Client
         requires { client.0 < length self.now.world.clients.items }
-        ensures stands { (g : Ring) (namings : Namings) (events : List model.Event) → WorldStands NodeStands g namings self.now.world events
+        ensures stands { (g : Ring) (events : List model.Event) → WorldStands NodeStands g self.now.world events
             → ClientStands result.now g client.0 (filter (λ r. g.owner r == client.0) (world g events).submits) ((world g events).got (by client.0)) }
-        ensures hearts { ForSetups H.naming self.now.world (λ block manifest g events. HeartsAreVersions H.naming block g events client.0) }
-        ensures seals { ForSetups H.naming self.now.world (λ block manifest g events. SealsAreManifests H.naming block manifest g events client.0) }
-        ensures replies { ForSetups H.naming self.now.world (λ block manifest g events. RepliesAreOutcomes H.naming block g events client.0) }
-        ensures answered { ForSetups H.naming self.now.world (λ block manifest g events. g.is_faulty 0 ≡ false → AllDelivered g (world g events) → AreAnswered g events client.0) }
-        ensures told { ForSetups H.naming self.now.world (λ block manifest g events. g.is_faulty 0 ≡ false → AllDelivered g (world g events) → HoldsTheLast H.naming self.now.held block g events client.0) }
+        ensures hearts { ForSetups H.naming self.now.world (λ block archiving g events. HeartsAreVersions H.naming block g events client.0) }
+        ensures seals { ForSetups H.naming self.now.world (λ block archiving g events. SealsAreManifests H.naming block archiving g events client.0) }
+        ensures replies { ForSetups H.naming self.now.world (λ block archiving g events. RepliesAreOutcomes H.naming block g events client.0) }
+        ensures answered { ForSetups H.naming self.now.world (λ block archiving g events. g.is_faulty 0 ≡ false → AllDelivered g (world g events) → AreAnswered g events client.0) }
+        ensures told { ForSetups H.naming self.now.world (λ block archiving g events. g.is_faulty 0 ≡ false → AllDelivered g (world g events) → HoldsTheLast H.naming self.now.held block g events client.0) }
     {
         ring_is_sound();
         heart_is_version();

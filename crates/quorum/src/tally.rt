@@ -3,13 +3,17 @@ ghost use Rattle.std.specs.Prelude.{◌≡◌, ◌<◌, ◌↔◌, ℕ, IsTrue, 
 ghost use Rattle.std.specs.Option.{option_or};
 ghost use Rattle.quorum.specs.Tallies.{first_vote, said_by, count};
 
+use pond_base::limits::MOST_FAULTY;
 use pond_base::{MemberId, Name};
 use std::marker::Model;
+
+// How many senders there are: the members of the largest ring.
+const SENDERS: usize = 3 * MOST_FAULTY as usize + 1;
 
 /// The first vote of each of ten senders. Contracts see the list of these ten, by sender.
 #[derive(Clone, Copy, Debug)]
 pub struct Tally {
-    votes: [Option<Name>; 10],
+    votes: [Option<Name>; SENDERS],
 }
 
 impl Model for Tally {
@@ -27,7 +31,9 @@ impl Tally {
     pub fn new() -> Tally
         ensures { (sender : ℕ) → first_vote result sender ≡ None }
     {
-        Tally { votes: [None; 10] }
+        Tally {
+            votes: [None; SENDERS],
+        }
     }
 
     /// Counts a sender's vote where it is the sender's first, and answers whether it is. Each other

@@ -16,9 +16,9 @@ use Rattle.ring_model.proofs.History.{Each-append, Each-at, same_some}
 use Rattle.ring_mail.specs.declared.kept.Kept.{Kept}
 use Rattle.ring_mail.specs.declared.kept.Note.{Note}
 use Rattle.ring_mail.specs.declared.kept.Mail.{Mail}
-use Rattle.ring_mail.specs.Seats.{IsSeat}
-use Rattle.ring_mail.specs.Places.{seat, link_of, Place, placed, places, is_done, same_place, place_of, delivery}
-use Rattle.ring_mail.specs.Places.{packet_of}
+use Rattle.ring_model.specs.Seats.{IsSeat}
+use Rattle.ring_mail.specs.Places.{seat, link_of, place_of, packet_of}
+use Rattle.ring_model.specs.Places.{Place, placed, places, is_done, same_place, delivery}
 use Rattle.ring_mail.specs.Mails.{is_marked, number_of, IsLink, AreKept, IsMail}
 
 -- ---- lists

@@ -10,8 +10,9 @@ use Rattle.ring_mail.specs.declared.kept.Kept.{Kept}
 use Rattle.ring_mail.specs.declared.kept.Mail.{Mail}
 use Rattle.ring_mail.specs.declared.kept.Note.{Note}
 use Rattle.ring_mail.specs.declared.kept.Queue.{Queue}
-use Rattle.ring_mail.specs.Seats.{IsSeat, is_seat}
-use Rattle.ring_mail.specs.Places.{link_of, Place, places, is_done, same_place, delivery, packet_of}
+use Rattle.ring_model.specs.Seats.{IsSeat, is_seat}
+use Rattle.ring_mail.specs.Places.{link_of, packet_of}
+use Rattle.ring_model.specs.Places.{Place, places, is_done, same_place, delivery}
 use Rattle.ring_mail.specs.Queues.{has, waits, is_some_of, IsQueue}
 use Rattle.ring_mail.specs.Skips.{has_lost}
 use Rattle.ring_mail.specs.Mails.{is_marked, number_of, is_open, IsLink, AreKept, AreWaiting, IsMail}

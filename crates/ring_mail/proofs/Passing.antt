@@ -9,8 +9,9 @@ use Rattle.std.proofs.lemmas.Option.{slice_get_read}
 use Rattle.ring_model.specs.Messages.{Party as Who, Member as member, Client as client, Packet as Sent, same_party}
 use Rattle.ring_model.proofs.History.{Each-at}
 use Rattle.ring_mail.specs.declared.kept.Mail.{Mail}
-use Rattle.ring_mail.specs.Seats.{IsSeat, is_seat}
-use Rattle.ring_mail.specs.Places.{seat, link_of, Place, places, is_done, is_due, same_place}
+use Rattle.ring_model.specs.Seats.{IsSeat, is_seat}
+use Rattle.ring_mail.specs.Places.{seat, link_of}
+use Rattle.ring_model.specs.Places.{Place, places, is_done, is_due, same_place}
 use Rattle.ring_mail.specs.Mails.{is_open, IsMail}
 use Rattle.ring_mail.specs.Queues.{has, waits, is_quiet}
 use Rattle.ring_mail.specs.Skips.{skips, is_skipped, has_muted, has_lost}

@@ -8,7 +8,8 @@ use Rattle.std.proofs.lemmas.List.Folds.{list_any-append}
 use Rattle.ring_model.specs.Messages.{Packet as Sent, same_party}
 use Rattle.ring_model.specs.World.{between}
 use Rattle.ring_model.proofs.History.{same_some}
-use Rattle.ring_mail.specs.Places.{link_of, Place, placed, places, is_done, same_place, delivery}
+use Rattle.ring_mail.specs.Places.{link_of}
+use Rattle.ring_model.specs.Places.{Place, placed, places, is_done, same_place, delivery}
 use Rattle.ring_mail.specs.Mails.{is_open}
 use Rattle.ring_mail.specs.Queues.{waits, is_some_of}
 use Rattle.ring_mail.proofs.Keeping.{same_party-refl, same_party-true, slice_pushed, delivery_there, delivery_none}

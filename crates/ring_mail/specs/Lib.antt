@@ -2,5 +2,4 @@ pub mod Behind
 pub mod Mails
 pub mod Places
 pub mod Queues
-pub mod Seats
 pub mod Skips

@@ -5,11 +5,12 @@ use Rattle.std.specs.BTreeSet.{BTreeSet}
 use Rattle.std.specs.declared.alloc.Global.{Global}
 use Rattle.ring_model.specs.Messages.{Party, Packet}
 use Rattle.ring_model.specs.World.{between}
-use Rattle.ring_mail.specs.Seats.{IsSeat}
+use Rattle.ring_model.specs.Seats.{IsSeat}
 use Rattle.ring_mail.specs.declared.kept.Kept.{Kept}
 use Rattle.ring_mail.specs.declared.kept.Mail.{Mail}
 use Rattle.ring_mail.specs.declared.kept.Note.{Note}
-use Rattle.ring_mail.specs.Places.{link_of, Place, places, place_of, is_done, packet_of}
+use Rattle.ring_mail.specs.Places.{link_of, place_of, packet_of}
+use Rattle.ring_model.specs.Places.{Place, places, is_done}
 use Rattle.ring_mail.specs.Queues.{waits, AreHeads}
 use Rattle.ring_mail.specs.Skips.{has_lost}
 

@@ -3,9 +3,10 @@ use Rattle.std.specs.Prelude.{ℕ, Bool, false, ◌&&◌, ◌||◌, List, slice_
 use Rattle.std.specs.BTreeSet.{BTreeSet}
 use Rattle.ring_model.specs.Messages.{Party}
 use Rattle.ring_mail.specs.declared.kept.Mail.{Mail}
-use Rattle.ring_mail.specs.Places.{seat, link_of, Place}
+use Rattle.ring_mail.specs.Places.{seat, link_of}
+use Rattle.ring_model.specs.Places.{Place}
 use Rattle.ring_mail.specs.Queues.{has}
-use Rattle.ring_mail.specs.Seats.{is_seat}
+use Rattle.ring_model.specs.Seats.{is_seat}
 
 -- which parties are muted, and which messages were lost
 pub record Skips : Type 0 where

@@ -28,7 +28,7 @@ pub struct Note {
 #[derive(Drop)]
 pub struct Queue {
     pub(crate) waiting: Vec<BTreeSet<u32>>,
-    // Of the first message of each link: its number times 676, and its link.
+    // Of the first message of each link: its number times the count of links, and its link.
     pub(crate) heads: BTreeSet<u64>,
     pub(crate) muted: Vec<bool>,
     ghost links: { length waiting.items ≡ 676 },

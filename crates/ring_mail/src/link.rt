@@ -2,7 +2,8 @@
 ghost use Rattle.std.specs.Prelude.{◌≡◌, ℕ, ◌<◌, List, [], ◌∷◌, ◌++◌, length, slice_get, option_map, OnOk, IfOk};
 ghost use Rattle.ring_model.specs.Messages.{Party, Packet};
 ghost use Rattle.ring_model.specs.World.{between};
-ghost use Rattle.ring_mail.specs.Places.{Place, delivery, packet_of};
+ghost use Rattle.ring_model.specs.Places.{Place, delivery};
+ghost use Rattle.ring_mail.specs.Places.{packet_of};
 ghost use Rattle.ring_mail.specs.Mails.{IsLink, is_marked as marked};
 
 use crate::kept::Kept;

@@ -4,15 +4,16 @@ ghost use Rattle.std.specs.List.{AllByRecursion};
 ghost use Rattle.ring_model.specs.Messages.{Packet, Party as Who, same_party as same};
 ghost use Rattle.ring_model.specs.World.{between};
 ghost use Rattle.message_model.specs.Meaning.{who};
-ghost use Rattle.ring_mail.specs.Seats.{IsSeat};
-ghost use Rattle.ring_mail.specs.Places.{Place, places, place_of, is_done, is_due, delivery, same_place, packet_of};
+ghost use Rattle.ring_model.specs.Seats.{IsSeat};
+ghost use Rattle.ring_model.specs.Places.{Place, places, is_done, is_due, delivery, same_place};
+ghost use Rattle.ring_mail.specs.Places.{place_of, packet_of};
 ghost use Rattle.ring_mail.specs.Mails.{IsMail, AreKept};
 ghost use Rattle.ring_mail.specs.Queues.{IsQueue, has, waits};
 ghost use Rattle.ring_mail.specs.Skips.{skips, is_skipped};
 
 use crate::kept::{Kept, Mail, Note, Queue};
 use crate::link::{is_marked, number_at, take_out};
-use crate::party::{link, same_party, seat};
+use crate::party::{LINKS, link, same_party, seat};
 use crate::queue::empty_sets;
 use bytes::Bytes;
 use pond_base::{OutOfMemory, Party};
@@ -26,7 +27,7 @@ impl Mail {
         ensures none_lost { IfOk result (λ mail. (place : Place) → (skips mail).lost place ≡ false) }
     {
         let mut links = Vec::new(alloc);
-        for _ in 0..676u32 {
+        for _ in 0..LINKS {
             links.push(Vec::new(alloc))?;
         }
         Ok(Mail {

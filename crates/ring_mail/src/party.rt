@@ -5,6 +5,16 @@ ghost use Rattle.message_model.specs.Meaning.{who};
 ghost use Rattle.ring_mail.specs.Places.{seat as seat_of, link_of};
 
 use pond_base::Party;
+use pond_base::limits::{MOST_CLIENTS, MOST_FAULTY};
+
+// How many seats members have, before those of clients.
+const MEMBER_SEATS: usize = 3 * MOST_FAULTY as usize + 1;
+
+// How many seats there are.
+pub(crate) const SEATS: usize = MEMBER_SEATS + MOST_CLIENTS as usize;
+
+// How many links there are, from each seat to each.
+pub(crate) const LINKS: usize = SEATS * SEATS;
 
 /// Whether these are one party. Takes no memory.
 pub fn same_party(one: Party, other: Party) -> bool
@@ -17,14 +27,14 @@ pub fn same_party(one: Party, other: Party) -> bool
     }
 }
 
-// The number of a party's seat: members have the first ten.
+// The number of a party's seat: members have the first ones.
 pub(crate) fn seat(party: Party) -> usize
     ensures value { result ≡ seat_of (who party) }
     ensures low { result < 266 }
 {
     match party {
         Party::Member(member) => member.0 as usize,
-        Party::Client(client) => 10 + client.0 as usize,
+        Party::Client(client) => MEMBER_SEATS + client.0 as usize,
     }
 }
 
@@ -32,5 +42,5 @@ pub(crate) fn seat(party: Party) -> usize
 pub(crate) fn link(from: Party, to: Party) -> usize
     ensures { result ≡ link_of (who from) (who to) }
 {
-    seat(from) * 26 + seat(to)
+    seat(from) * SEATS + seat(to)
 }

@@ -7,6 +7,7 @@ ghost use Rattle.ring_mail.specs.Behind.{IsBehind};
 ghost use Rattle.ring_mail.specs.Queues.{IsQueue, waits, is_quiet as quiet, is_lead, is_some_of};
 
 use crate::kept::Queue;
+use crate::party::{LINKS, SEATS};
 use pond_base::OutOfMemory;
 use std::alloc::Global;
 use std::collections::BTreeSet;
@@ -19,7 +20,7 @@ impl Queue {
         ensures unmuted { IfOk result (λ queue. (seat : ℕ) → slice_index_or queue.muted.items seat false ≡ false) }
     {
         let mut muted = Vec::new(alloc);
-        for _ in 0..26u32 {
+        for _ in 0..SEATS {
             muted.push(false)?;
         }
         Ok(Queue {
@@ -36,7 +37,7 @@ impl Queue {
         ensures none { result ≡ None → IsQueue self.now → (link other : ℕ) → link < 676 → quiet self.now.muted.items link ≡ false → waits self.now.waiting.items link other ≡ false }
     {
         match self.heads.first() {
-            Some(head) => Some((*head / 676) as usize),
+            Some(head) => Some((*head / LINKS as u64) as usize),
             None => None,
         }
     }
@@ -114,8 +115,8 @@ impl Queue {
         ensures muted { (s : ℕ) → slice_index_or self.new.muted.items s false ≡ cond (s == seat) muted (slice_index_or self.old.muted.items s false) }
     {
         self.muted[seat] = muted;
-        for link in 0..676usize {
-            if link / 26 == seat || link % 26 == seat {
+        for link in 0..LINKS {
+            if link / SEATS == seat || link % SEATS == seat {
                 self.show(link)?;
             }
         }
@@ -169,7 +170,7 @@ impl Queue {
         requires { link < 676 }
         ensures { result ≡ quiet self.now.muted.items link }
     {
-        self.muted[link / 26] || self.muted[link % 26]
+        self.muted[link / SEATS] || self.muted[link % SEATS]
     }
 }
 
@@ -179,7 +180,7 @@ fn head_of(number: u32, link: usize) -> u64
     ensures number { result / 676 ≡ number }
     ensures link { result % 676 ≡ link }
 {
-    number as u64 * 676 + link as u64
+    number as u64 * LINKS as u64 + link as u64
 }
 
 // An empty set for each link.
@@ -188,7 +189,7 @@ pub(crate) fn empty_sets(alloc: Global) -> Result<Vec<BTreeSet<u32>>, OutOfMemor
     ensures empty { IfOk result (λ sets. AllByRecursion (λ one. one.keys ≡ []) sets.items) }
 {
     let mut sets = Vec::new(alloc);
-    for _ in 0..676u32 {
+    for _ in 0..LINKS {
         sets.push(BTreeSet::new(alloc))?;
     }
     Ok(sets)

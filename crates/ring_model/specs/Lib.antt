@@ -5,3 +5,6 @@ pub mod World
 pub mod Belief
 pub mod Laws
 pub mod Schedules
+pub mod Places
+pub mod Seats
+pub mod Deliveries

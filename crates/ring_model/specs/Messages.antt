@@ -61,8 +61,12 @@ pub record Ring : Type 0 where
   -- what the last request of a list does after those before it: its outcome, and the version that it makes
   pub outcome : List (List ℕ) → List ℕ
   pub heart : List (List ℕ) → Option Mark
+  -- the strings that the execution of the last request of a list names
+  pub namings : List (List ℕ) → List (List ℕ)
   -- the versions that a list of requests makes, with their manifests' names, in order of making
   pub seals : List (List ℕ) → List Mark
+  -- the strings that are named as each of these is archived
+  pub turns : List (List ℕ) → List (List (List ℕ))
   -- what was made stays made
   pub seals_stay : (xs ys : List (List ℕ)) → (rest : List Mark) × (seals xs ++ rest ≡ seals (xs ++ ys))
 

@@ -42,7 +42,9 @@ four faulty clients = record {
   number = λ r. slice_index r 1;
   outcome = λ xs. cond (is_repeat xs) [] (different [] xs ∷ []);
   heart = λ xs. cond (is_repeat xs) None (Some (version (different [] xs) (get_or xs (length xs - 1) [])));
+  namings = λ xs. [];
   seals = λ xs. [];
+  turns = λ xs. [];
   seals_stay = λ xs ys. ([], refl);
 }
 

@@ -1,13 +1,12 @@
 -- What calls name, one after another.
 use Rattle.std.proofs.Common.{List, [], ℕ, Contains, Result, Ok, Err, refl}
 use Rattle.block_names.specs.Held.{Held}
-use Rattle.block_names.specs.Growth.{Grew, IsClashIn}
+use Rattle.block_names.specs.Growth.{Grew, IsClashIn, Keeps}
 use Rattle.block_names.proofs.Clashed.{held_none, clash_among}
 use Rattle.block_names.specs.Faults.{step_fault}
 use Rattle.block_names.specs.declared.fault.NameFault.{NameFault}
 use Rattle.block_names.specs.declared.fault.NameFault.TheVariants.{Clash, Memory}
 use Rattle.block_names.proofs.Grown.{grew_none}
-use Rattle.cow_tree.specs.Laws.{Keeps}
 use Rattle.client_core.specs.Naming.{Names}
 use Rattle.ring_world.specs.Steps.{IsStepClash, IsStepClashAmong}
 

@@ -9,11 +9,11 @@ use Rattle.ring_model.specs.World.{World as Model, Event, Submit, Resubmit, Deli
 use Rattle.ring_model.specs.Laws.{IsHonest, AllDelivered}
 use Rattle.ring_model.proofs.History.{same_some, Each-weaker, Each-append, Each-at}
 use Rattle.ring_model.proofs.Lists.{there_first, there_later}
-use Rattle.ring_mail.specs.Places.{Place, placed, places, is_done, same_place, delivery, is_due}
+use Rattle.ring_model.specs.Places.{Place, placed, places, is_done, same_place, delivery, is_due}
 use Rattle.ring_mail.proofs.Keeping.{same_party-true, delivery_there, delivery_none}
 use Rattle.ring_mail.specs.Skips.{Skips, is_skipped}
 use Rattle.ring_world.specs.Skipping.{PassNothing}
-use Rattle.ring_world.specs.Deliveries.{deliveries, delivered_by, pending}
+use Rattle.ring_model.specs.Deliveries.{deliveries, delivered_by, pending}
 use Rattle.ring_mail.proofs.Waiting.{place_leads}
 
 abbrev letter : Sent → Letter

@@ -9,16 +9,16 @@ use Rattle.ring_model.proofs.History.{same_some}
 use Rattle.ring_model.proofs.Lists.{there_none, Each-there}
 use Rattle.ring_model.proofs.Agreement.{only_submitted}
 use Rattle.ring_model.proofs.Chosen.{all_correct, longest_of}
-use Rattle.ring_node.specs.Naming.{Namings}
 use Rattle.ring_mail.specs.declared.kept.Mail.{Mail}
 use Rattle.ring_mail.specs.declared.kept.Note.{Note}
-use Rattle.ring_mail.specs.Places.{Place, placed, places, place_of, is_done}
+use Rattle.ring_model.specs.Places.{Place, placed, places, is_done}
+use Rattle.ring_mail.specs.Places.{place_of}
 use Rattle.ring_mail.specs.Mails.{IsMail}
 use Rattle.ring_mail.proofs.Keeping.{filter-short}
 use Rattle.ring_world.specs.declared.members.Members.{Members}
 use Rattle.ring_world.specs.Bests.{IsBest}
 use Rattle.ring_world.specs.Crew.{AreMembers}
-use Rattle.ring_world.specs.Skipping.{Told, told, counted}
+use Rattle.message_model.specs.Told.{Told, told, counted}
 use Rattle.ring_world.specs.Standing.{Standing}
 use Rattle.ring_world.proofs.Correct.{none_correct}
 use Rattle.ring_world.proofs.Stepping.{all_few, told_place}
@@ -64,16 +64,16 @@ down_there (x ∷ flags) zero e = omega arith
 down_there (x ∷ flags) (suc i) e = let low = down_there flags i e in omega (arith, low)
 
 -- the correct member that is kept is one
-kept_correct : {N : Type 0} (stands : Standing N) (g : Ring) (namings : Namings) (m : Members N) (got : Who → List Letter) → AreMembers stands g namings m got → IsCorrect g m.correct
-kept_correct stands g namings m got h =
+kept_correct : {N : Type 0} (stands : Standing N) (g : Ring) (m : Members N) (got : Who → List Letter) (archived : ℕ → ℕ) → AreMembers stands g m got archived → IsCorrect g m.correct
+kept_correct stands g m got archived h =
     let low = down_there m.faulty.items m.correct m.there in
     let less : m.correct < 3 * g.f + 1 = omega (arith, low, m.flags, h.count) in
     (less, sym (h.faulty_are m.correct true less) ∙ m.there)
 
 -- a best one is found, and it has a node
-pub best_there : {N : Type 0} (stands : Standing N) (g : Ring) (namings : Namings) (m : Members N) (got : Who → List Letter) → AreMembers stands g namings m got → IsBest g got 0 (3 * g.f + 1) None → (Y : Type 0) → Y
-best_there stands g namings m got h none Y =
-    let right = kept_correct stands g namings m got h in
+pub best_there : {N : Type 0} (stands : Standing N) (g : Ring) (m : Members N) (got : Who → List Letter) (archived : ℕ → ℕ) → AreMembers stands g m got archived → IsBest g got 0 (3 * g.f + 1) None → (Y : Type 0) → Y
+best_there stands g m got archived h none Y =
+    let right = kept_correct stands g m got archived h in
     let low : 0 ≤ m.correct = omega arith in
     let high : m.correct < 0 + (3 * g.f + 1) = omega (arith, right.0) in
     let wrong = none_correct g 0 (3 * g.f + 1) m.correct none low high in

@@ -17,13 +17,12 @@ use Rattle.ring_model.proofs.Ordered.{all_numbered}
 use Rattle.message_model.specs.Meaning.{who}
 use Rattle.message_model.specs.Reading.{IsRingOf}
 use Rattle.client_core.specs.declared.client.Client.{Client}
-use Rattle.ring_node.specs.Naming.{Namings}
-use Rattle.ring_mail.specs.Places.{Place}
+use Rattle.ring_model.specs.Places.{Place}
 use Rattle.ring_world.specs.declared.event.Event.{Event}
 use Rattle.ring_world.specs.declared.event.Event.TheVariants.{Submit, Resubmit, Deliver, Forge}
 use Rattle.ring_world.specs.declared.state.World.{World}
 use Rattle.ring_world.specs.Conditions.{MayStep, FitsPlaces}
-use Rattle.ring_world.specs.Deliveries.{deliveries}
+use Rattle.ring_model.specs.Deliveries.{deliveries}
 use Rattle.ring_world.specs.Standing.{Standing}
 use Rattle.ring_world.specs.Steps.{IsStep, IsNext, IsDeclared, all_asked}
 use Rattle.ring_world.specs.Worlds.{IsWorld, WorldStands, next_request, event_of}
@@ -90,17 +89,17 @@ by_places f count (x ∷ xs) a each =
     omega (arith, here, at, rest, sum_by-cons f x xs, sum_by-cons count a (range_with_len (a + 1) (length xs)))
 
 -- the clients of a world submitted all that was submitted
-world_counted : {N : Type 0} (stands : Standing N) (g : Ring) (namings : Namings) (w : World N) (v : Model) (done : List Place) → IsWorld stands g namings w v done → Each (λ r. g.owner r < g.clients) v.submits → all_asked w ≡ length v.submits
-world_counted stands g namings w v done h owners =
-    by_places (λ (c : Client). length c.requests.items) (λ c. count_by (of g c) v.submits) w.clients.items 0 (λ k d low. let same : k ≡ 0 + k = omega arith in numbered_next stands g namings w v done k d low h ∙ ap (λ j. count_by (of g j) v.submits) same)
+world_counted : {N : Type 0} (stands : Standing N) (g : Ring) (w : World N) (v : Model) (done : List Place) → IsWorld stands g w v done → Each (λ r. g.owner r < g.clients) v.submits → all_asked w ≡ length v.submits
+world_counted stands g w v done h owners =
+    by_places (λ (c : Client). length c.requests.items) (λ c. count_by (of g c) v.submits) w.clients.items 0 (λ k d low. let same : k ≡ 0 + k = omega arith in numbered_next stands g w v done k d low h ∙ ap (λ j. count_by (of g j) v.submits) same)
     ∙ ap (λ n. sum_by (λ c. count_by (of g c) v.submits) (range_with_len 0 n)) h.client_count ∙ all_counted g g.clients v.submits owners
 
 -- ---- events
 
 -- a party of the world is declared
-declared_party : {N : Type 0} (stands : Standing N) (g : Ring) (namings : Namings) (w : World N) (events : List model.Event) (p : Party) → WorldStands stands g namings w events → IsDeclared w p → IsParty g p
-declared_party stands g namings w events (member i) s d = omega (arith, d.1, s.is.members_are.count)
-declared_party stands g namings w events (client c) s d = omega (arith, d.1, s.is.client_count)
+declared_party : {N : Type 0} (stands : Standing N) (g : Ring) (w : World N) (events : List model.Event) (p : Party) → WorldStands stands g w events → IsDeclared w p → IsParty g p
+declared_party stands g w events (member i) s d = omega (arith, d.1, s.is.members_are.count)
+declared_party stands g w events (client c) s d = omega (arith, d.1, s.is.client_count)
 
 is_lt : (n k : ℕ) → n < k → nat_lt n k ≡ true
 is_lt n k p = grind arith
@@ -115,30 +114,30 @@ each_passes t (x ∷ xs) =
     ] refl
 
 -- an event that may come by the world's values may come in the model
-pub next_comes : {N : Type 0} (stands : Standing N) (h : List ℕ → List ℕ) (g : Ring) (namings : Namings) (w : World N) (events : List model.Event) (e : Event) → IsRingOf h g → WorldStands stands g namings w events → IsNext w e → FitsPlaces e
+pub next_comes : {N : Type 0} (stands : Standing N) (h : List ℕ → List ℕ) (g : Ring) (w : World N) (events : List model.Event) (e : Event) → IsRingOf h g → WorldStands stands g w events → IsNext w e → FitsPlaces e
     → MayHappen g (world g events) (event_of g (world g events) e)
-next_comes stands h g namings w events (Submit c label update) ring s next places =
+next_comes stands h g w events (Submit c label update) ring s next places =
     let v = world g events in
     let r : Asking = next_request g v c.0 label update in
     let d : Client = some_item w.clients.items (omega (arith, next.0.0.1)) in
-    let size : length (get_or w.clients.items c.0 d).requests.items ≡ count_by (of g c.0) v.submits = numbered_next stands g namings w v (deliveries g events) c.0 d next.0.0.1 s.is in
+    let size : length (get_or w.clients.items c.0 d).requests.items ≡ count_by (of g c.0) v.submits = numbered_next stands g w v (deliveries g events) c.0 d next.0.0.1 s.is in
     let few : count_by (of g c.0) v.submits < 65536 = omega (arith, size, next.0.1 d) in
     let fits : request_fits r ≡ true = both (nat_lt c.0 16 && nat_le 1 r.number) (update_fits update) (both (nat_lt c.0 16) (nat_le 1 r.number) (is_lt c.0 16 next.0.0.0) (is_le 1 r.number (omega arith))) next.0.2 in
     let is : IsRequest r = record { fits = fits; places = record { number = omega (arith, few); label = places.0; few = omega (arith, (fitting_clauses r fits).0); clauses = places.1 } } in
     let owner : g.owner (request_string r) ≡ c.0 = ring.owners r is in
     let number : g.number (request_string r) ≡ count_by (of g c.0) v.submits + 1 = ring.numbers r is in
-    let all : all_asked w ≡ length v.submits = world_counted stands g namings w v (deliveries g events) s.is (all_numbered g events s.legal).owners in
+    let all : all_asked w ≡ length v.submits = world_counted stands g w v (deliveries g events) s.is (all_numbered g events s.legal).owners in
     let mine : c.0 < g.clients = omega (arith, next.0.0.1, s.is.client_count) in (
       omega (arith, all, next.1, s.is.small.slots),
       subst (λ k. k < g.clients) (sym owner) mine,
       subst (λ k. g.number (request_string r) ≡ count_by (of g k) v.submits + 1) (sym owner) number,
     )
-next_comes stands h g namings w events (Resubmit c n) ring s next places =
+next_comes stands h g w events (Resubmit c n) ring s next places =
     let v = world g events in
     let own : List ℕ → Bool = of g c.0 in
     let mine : List (List ℕ) = filter own v.submits in
     let d : Client = some_item w.clients.items (omega (arith, next.0.1)) in
-    let size : length (get_or w.clients.items c.0 d).requests.items ≡ count_by own v.submits = numbered_next stands g namings w v (deliveries g events) c.0 d next.0.1 s.is in
+    let size : length (get_or w.clients.items c.0 d).requests.items ≡ count_by own v.submits = numbered_next stands g w v (deliveries g events) c.0 d next.0.1 s.is in
     let all : length mine ≡ count_by own v.submits = length-filter own v.submits in
     let request : List ℕ = get_or mine (n - 1) [] in
     let here = slice_get-get_or mine (n - 1) [] (omega (arith, size, all, next.1, next.2 d)) in
@@ -148,23 +147,23 @@ next_comes stands h g namings w events (Resubmit c n) ring s next places =
       eqb-true (g.owner request) c.0 (Each-at (λ r. own r ≡ true) mine (n - 1) request (each_passes own v.submits) here),
       omega (arith, number, next.1),
     )
-next_comes stands h g namings w events (Deliver p q k) ring s next places = (declared_party stands g namings w events (who p) s next.0, declared_party stands g namings w events (who q) s next.1)
-next_comes stands h g namings w events (Forge i q bytes) ring s next places =
-    let there : i.0 < 3 * g.f + 1 = declared_party stands g namings w events (member i.0) s next.0.0 in (
+next_comes stands h g w events (Deliver p q k) ring s next places = (declared_party stands g w events (who p) s next.0, declared_party stands g w events (who q) s next.1)
+next_comes stands h g w events (Forge i q bytes) ring s next places =
+    let there : i.0 < 3 * g.f + 1 = declared_party stands g w events (member i.0) s next.0.0 in (
       sym (s.is.members_are.faulty_are i.0 false there) ∙ next.1 false,
       there,
-      declared_party stands g namings w events (who q) s next.0.1,
+      declared_party stands g w events (who q) s next.0.1,
     )
 
 -- and one that may come in the model, by the world's values
-pub comes_next : {N : Type 0} (stands : Standing N) (g : Ring) (namings : Namings) (w : World N) (events : List model.Event) (e : Event) → WorldStands stands g namings w events → MayStep g (world g events) e
+pub comes_next : {N : Type 0} (stands : Standing N) (g : Ring) (w : World N) (events : List model.Event) (e : Event) → WorldStands stands g w events → MayStep g (world g events) e
     → MayHappen g (world g events) (event_of g (world g events) e) → IsNext w e
-comes_next stands g namings w events (Submit c label update) s step may =
-    let all : all_asked w ≡ length (world g events).submits = world_counted stands g namings w (world g events) (deliveries g events) s.is (all_numbered g events s.legal).owners in
-    (step_fits stands g namings w events (Submit c label update) s step, omega (arith, all, may.0, s.is.small.slots))
-comes_next stands g namings w events (Resubmit c n) s step may = step_fits stands g namings w events (Resubmit c n) s step
-comes_next stands g namings w events (Deliver p q k) s step may = step_fits stands g namings w events (Deliver p q k) s step
-comes_next stands g namings w events (Forge i q bytes) s step may = (step_fits stands g namings w events (Forge i q bytes) s step, λ d. s.is.members_are.faulty_are i.0 d may.1 ∙ may.0)
+comes_next stands g w events (Submit c label update) s step may =
+    let all : all_asked w ≡ length (world g events).submits = world_counted stands g w (world g events) (deliveries g events) s.is (all_numbered g events s.legal).owners in
+    (step_fits stands g w events (Submit c label update) s step, omega (arith, all, may.0, s.is.small.slots))
+comes_next stands g w events (Resubmit c n) s step may = step_fits stands g w events (Resubmit c n) s step
+comes_next stands g w events (Deliver p q k) s step may = step_fits stands g w events (Deliver p q k) s step
+comes_next stands g w events (Forge i q bytes) s step may = (step_fits stands g w events (Forge i q bytes) s step, λ d. s.is.members_are.faulty_are i.0 d may.1 ∙ may.0)
 
 -- a step can do it
 pub next_step : {N : Type 0} (w : World N) (e : Event) → IsNext w e → IsStep w e

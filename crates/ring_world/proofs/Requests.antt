@@ -9,9 +9,8 @@ use Rattle.std.proofs.lemmas.List.{length-set, length-map}
 use Rattle.std.proofs.lemmas.List.Elements.{filter-append}
 use Rattle.std.proofs.lemmas.List.Sums.{length-filter}
 use Rattle.block_names.specs.Held.{Held}
-use Rattle.block_names.specs.Growth.{Holds}
+use Rattle.block_names.specs.Growth.{Holds, Keeps}
 use Rattle.tree_format.specs.Strings.{label_string}
-use Rattle.cow_tree.specs.Laws.{Keeps}
 use Rattle.guarded_update.specs.declared.update.Update.{Update}
 use Rattle.guarded_update.specs.declared.request.Request.{Request as Asking}
 use Rattle.guarded_update.specs.Fitting.{IsRequest}
@@ -29,9 +28,9 @@ use Rattle.message_model.proofs.Fields.{request_seam}
 use Rattle.client_core.specs.declared.client.Client.{Client}
 use Rattle.client_core.specs.Clients as core
 use Rattle.client_core.specs.Clients.{ClientStands, texts_of}
-use Rattle.ring_node.specs.Naming.{Namings}
 use Rattle.ring_mail.specs.declared.kept.Mail.{Mail}
-use Rattle.ring_mail.specs.Places.{Place, packet_of}
+use Rattle.ring_model.specs.Places.{Place}
+use Rattle.ring_mail.specs.Places.{packet_of}
 use Rattle.ring_mail.specs.Mails.{IsMail}
 use Rattle.ring_world.specs.declared.state.World.{World}
 use Rattle.ring_world.specs.Standing.{Standing, Knowing}
@@ -41,10 +40,10 @@ use Rattle.ring_world.specs.Steps.{InOrder}
 use Rattle.ring_world.proofs.Telling.{of, each_set, client_at}
 
 -- a request more of its client
-submitted : {N : Type 0} (stands : Standing N) (g : Ring) (namings : Namings) (w : World N) (v : Model) (done : List Place) (c : ℕ) (text : List ℕ) (new : Client) (mail : Mail) → g.owner text ≡ c → c < length w.clients.items
-    → ClientStands new g c (filter (of g c) v.submits ++ text ∷ []) (v.got (client c)) → IsMail mail (v.sent ++ asking g (Some text)) done → IsWorld stands g namings w v done
-    → IsWorld stands g namings (record w { clients = with_item w.clients c new; mail = mail }) (happens g v (Submit text)) done
-submitted stands g namings w v done c text new mail owner low is posted h =
+submitted : {N : Type 0} (stands : Standing N) (g : Ring) (w : World N) (v : Model) (done : List Place) (c : ℕ) (text : List ℕ) (new : Client) (mail : Mail) → g.owner text ≡ c → c < length w.clients.items
+    → ClientStands new g c (filter (of g c) v.submits ++ text ∷ []) (v.got (client c)) → IsMail mail (v.sent ++ asking g (Some text)) done → IsWorld stands g w v done
+    → IsWorld stands g (record w { clients = with_item w.clients c new; mail = mail }) (happens g v (Submit text)) done
+submitted stands g w v done c text new mail owner low is posted h =
     record {
       small = h.small;
       mail_is = posted;
@@ -62,35 +61,35 @@ submitted stands g namings w v done c text new mail owner low is posted h =
     }
 
 -- how many requests a client submitted
-pub numbered_next : {N : Type 0} (stands : Standing N) (g : Ring) (namings : Namings) (w : World N) (v : Model) (done : List Place) (c : ℕ) (d : Client) → c < length w.clients.items → IsWorld stands g namings w v done
+pub numbered_next : {N : Type 0} (stands : Standing N) (g : Ring) (w : World N) (v : Model) (done : List Place) (c : ℕ) (d : Client) → c < length w.clients.items → IsWorld stands g w v done
     → length (get_or w.clients.items c d).requests.items ≡ count_by (of g c) v.submits
-numbered_next stands g namings w v done c d low h =
-    sym (length-map (get_or w.clients.items c d).requests.items (λ asked. asked.text)) ∙ ap length (client_at stands g namings w v done c d (get_or w.clients.items c d) low refl h).requests ∙ length-filter (of g c) v.submits
+numbered_next stands g w v done c d low h =
+    sym (length-map (get_or w.clients.items c d).requests.items (λ asked. asked.text)) ∙ ap length (client_at stands g w v done c d (get_or w.clients.items c d) low refl h).requests ∙ length-filter (of g c) v.submits
 
 -- a client's next request is the model's
-pub next_is : {N : Type 0} (stands : Standing N) (g : Ring) (namings : Namings) (w : World N) (v : Model) (done : List Place) (c : ℕ) (label : List ℕ) (update : Update) (d one : Client)
-    → c < length w.clients.items → one ≡ get_or w.clients.items c d → IsWorld stands g namings w v done → core.next_request one label update ≡ next_request g v c label update
-next_is stands g namings w v done c label update d one low is h =
-    ap₂ (λ i n. record { client = record { 0 = i }; number = n + 1; label = label; update = update }) (client_at stands g namings w v done c d one low is h).number
-    (ap (λ (k : Client). length k.requests.items) is ∙ numbered_next stands g namings w v done c d low h)
+pub next_is : {N : Type 0} (stands : Standing N) (g : Ring) (w : World N) (v : Model) (done : List Place) (c : ℕ) (label : List ℕ) (update : Update) (d one : Client)
+    → c < length w.clients.items → one ≡ get_or w.clients.items c d → IsWorld stands g w v done → core.next_request one label update ≡ next_request g v c label update
+next_is stands g w v done c label update d one low is h =
+    ap₂ (λ i n. record { client = record { 0 = i }; number = n + 1; label = label; update = update }) (client_at stands g w v done c d one low is h).number
+    (ap (λ (k : Client). length k.requests.items) is ∙ numbered_next stands g w v done c d low h)
 
 -- a client submitted the request that the model has next
-pub submitted_as : {N : Type 0} (stands : Standing N) (h : List ℕ → List ℕ) (g : Ring) (namings : Namings) (w : World N) (v : Model) (done : List Place) (c : ℕ) (r next : Asking) (new : Client) (mail : Mail)
+pub submitted_as : {N : Type 0} (stands : Standing N) (h : List ℕ → List ℕ) (g : Ring) (w : World N) (v : Model) (done : List Place) (c : ℕ) (r next : Asking) (new : Client) (mail : Mail)
     → r ≡ next → r.client.0 ≡ c → IsRingOf h g → IsRequest r → c < length w.clients.items → ClientStands new g c (filter (of g c) v.submits ++ request_string r ∷ []) (v.got (client c))
-    → IsMail mail (v.sent ++ asking g (Some (request_string r))) done → IsWorld stands g namings w v done
-    → IsWorld stands g namings (record w { clients = with_item w.clients c new; mail = mail }) (happens g v (Submit (request_string next))) done
-submitted_as {N} stands h g namings w v done c r next new mail same mine ring allowed low is posted old =
-    subst (λ (t : Asking). IsWorld stands g namings made (happens g v (Submit (request_string t))) done) same
-    (submitted stands g namings w v done c (request_string r) new mail (ring.owners r allowed ∙ mine) low is posted old)
+    → IsMail mail (v.sent ++ asking g (Some (request_string r))) done → IsWorld stands g w v done
+    → IsWorld stands g (record w { clients = with_item w.clients c new; mail = mail }) (happens g v (Submit (request_string next))) done
+submitted_as {N} stands h g w v done c r next new mail same mine ring allowed low is posted old =
+    subst (λ (t : Asking). IsWorld stands g made (happens g v (Submit (request_string t))) done) same
+    (submitted stands g w v done c (request_string r) new mail (ring.owners r allowed ∙ mine) low is posted old)
   where
     made : World N
     made = record w { clients = with_item w.clients c new; mail = mail }
 
 -- a faulty member sent bytes
-pub forged : {N : Type 0} (stands : Standing N) (g : Ring) (namings : Namings) (w : World N) (v : Model) (done : List Place) (i : ℕ) (q : Who) (bytes : List ℕ) (mail : Mail)
-    → IsMail mail (v.sent ++ packet_of (member i) q bytes ∷ []) done → IsWorld stands g namings w v done
-    → IsWorld stands g namings (record w { mail = mail }) (happens g v (Forge i q (meaning bytes))) done
-forged stands g namings w v done i q bytes mail posted h =
+pub forged : {N : Type 0} (stands : Standing N) (g : Ring) (w : World N) (v : Model) (done : List Place) (i : ℕ) (q : Who) (bytes : List ℕ) (mail : Mail)
+    → IsMail mail (v.sent ++ packet_of (member i) q bytes ∷ []) done → IsWorld stands g w v done
+    → IsWorld stands g (record w { mail = mail }) (happens g v (Forge i q (meaning bytes))) done
+forged stands g w v done i q bytes mail posted h =
     record {
       small = h.small;
       mail_is = posted;
@@ -140,10 +139,10 @@ asked_again g submits c n k text next there order = (
   Each-at (λ r. g.owner r ≡ c) (filter (of g c) submits) k text (filter_holds (of g c) (λ r. g.owner r ≡ c) (λ r t. eqb-true (g.owner r) c t) submits) there,
 )
 
-pub resubmitted : {N : Type 0} (stands : Standing N) (g : Ring) (namings : Namings) (w : World N) (v : Model) (done : List Place) (c n : ℕ) (text : List ℕ) (mail : Mail)
-    → (find (λ r. g.owner r == c && g.number r == n) v.submits ≡ Some text) × (g.owner text ≡ c) → IsMail mail (v.sent ++ to_members g (client c) (Request text)) done → IsWorld stands g namings w v done
-    → IsWorld stands g namings (record w { mail = mail }) (happens g v (Resubmit c n)) done
-resubmitted stands g namings w v done c n text mail again posted h =
+pub resubmitted : {N : Type 0} (stands : Standing N) (g : Ring) (w : World N) (v : Model) (done : List Place) (c n : ℕ) (text : List ℕ) (mail : Mail)
+    → (find (λ r. g.owner r == c && g.number r == n) v.submits ≡ Some text) × (g.owner text ≡ c) → IsMail mail (v.sent ++ to_members g (client c) (Request text)) done → IsWorld stands g w v done
+    → IsWorld stands g (record w { mail = mail }) (happens g v (Resubmit c n)) done
+resubmitted stands g w v done c n text mail again posted h =
     record {
       small = h.small;
       mail_is = subst (λ xs. IsMail mail (v.sent ++ xs) done) (ap (λ k. to_members g (client k) (Request text)) (sym again.1) ∙ ap (asking g) (sym again.0)) posted;
@@ -208,9 +207,9 @@ some_item [] low = absurd (omega (arith, low))
 some_item (x ∷ xs) low = x
 
 -- each submitted request is held, with its label's string
-submits_held : {N : Type 0} (stands : Standing N) (knows : Knowing N) (h : List ℕ → List ℕ) (held : Held) (g : Ring) (namings : Namings) (w : World N) (events : List Event)
-    → IsKnown knows h held w → WorldStands stands g namings w events → (r : List ℕ) → Contains (world g events).submits r → IsNamed h held r
-submits_held stands knows h held g namings w events k s r there =
+submits_held : {N : Type 0} (stands : Standing N) (knows : Knowing N) (h : List ℕ → List ℕ) (held : Held) (g : Ring) (w : World N) (events : List Event)
+    → IsKnown knows h held w → WorldStands stands g w events → (r : List ℕ) → Contains (world g events).submits r → IsNamed h held r
+submits_held stands knows h held g w events k s r there =
     let low : g.owner r < g.clients = Each-there (λ r. g.owner r < g.clients) (world g events).submits r (all_numbered g events s.legal).owners there in
     let mine = there_filter (of g (g.owner r)) (world g events).submits r there (eq-eqb (g.owner r) (g.owner r) refl) in
     let d : Client = some_item w.clients.items (omega (arith, low, s.is.client_count)) in
@@ -218,15 +217,15 @@ submits_held stands knows h held g namings w events k s r there =
     (subst (Each (IsNamed h held)) (s.is.clients_stand (g.owner r) d low).requests (k.requests (g.owner r) d (omega (arith, low, s.is.client_count)))) mine
 
 -- no two of them have one name
-pub submits_apart : {N : Type 0} (stands : Standing N) (knows : Knowing N) (h : List ℕ → List ℕ) (held : Held) (g : Ring) (namings : Namings) (w : World N) (events : List Event)
-    → IsRingOf h g → IsKnown knows h held w → WorldStands stands g namings w events → NoClash g (world g events).submits
-submits_apart stands knows h held g namings w events ring k s a b one two same =
-    let x = submits_held stands knows h held g namings w events k s a one in
-    let y = submits_held stands knows h held g namings w events k s b two in
+pub submits_apart : {N : Type 0} (stands : Standing N) (knows : Knowing N) (h : List ℕ → List ℕ) (held : Held) (g : Ring) (w : World N) (events : List Event)
+    → IsRingOf h g → IsKnown knows h held w → WorldStands stands g w events → NoClash g (world g events).submits
+submits_apart stands knows h held g w events ring k s a b one two same =
+    let x = submits_held stands knows h held g w events k s a one in
+    let y = submits_held stands knows h held g w events k s b two in
     let names : h a ≡ h b = sym (ring.names a) ∙ same ∙ ring.names b in
     same_some a b (sym x.0 ∙ ap (finmap.get held) names ∙ y.0)
 
 -- and the strings of their labels are held
-pub labels_held : {N : Type 0} (stands : Standing N) (knows : Knowing N) (h : List ℕ → List ℕ) (held : Held) (g : Ring) (namings : Namings) (w : World N) (events : List Event)
-    → IsKnown knows h held w → WorldStands stands g namings w events → LabelsHeld h held (world g events).submits
-labels_held stands knows h held g namings w events k s text there = (submits_held stands knows h held g namings w events k s text there).1
+pub labels_held : {N : Type 0} (stands : Standing N) (knows : Knowing N) (h : List ℕ → List ℕ) (held : Held) (g : Ring) (w : World N) (events : List Event)
+    → IsKnown knows h held w → WorldStands stands g w events → LabelsHeld h held (world g events).submits
+labels_held stands knows h held g w events k s text there = (submits_held stands knows h held g w events k s text there).1

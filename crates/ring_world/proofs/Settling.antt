@@ -7,7 +7,8 @@ use Rattle.ring_model.specs.Messages.{Ring, Packet as Sent}
 use Rattle.ring_model.specs.World.{World as Model, Event, Deliver, between, came, world, IsParty, IsLegal}
 use Rattle.ring_model.proofs.History.{same_some, Each-at}
 use Rattle.ring_model.proofs.Declared.{sent_declared}
-use Rattle.ring_mail.specs.Places.{Place, placed, places, is_done, is_due, same_place, delivery, place_of}
+use Rattle.ring_model.specs.Places.{Place, placed, places, is_done, is_due, same_place, delivery}
+use Rattle.ring_mail.specs.Places.{place_of}
 use Rattle.std.proofs.lemmas.List.{length-map}
 use Rattle.block_names.specs.Held.{Held}
 use Rattle.block_names.specs.Growth.{Holds, keep_all, Grew, IsClashIn}
@@ -22,8 +23,8 @@ use Rattle.ring_mail.specs.Mails.{IsMail}
 use Rattle.ring_mail.proofs.Keeping.{placed-append, delivery_there, take_front}
 use Rattle.ring_mail.proofs.Waiting.{place_leads, same_place-refl}
 use Rattle.ring_world.specs.declared.state.World.{World}
-use Rattle.ring_world.specs.Deliveries.{deliveries, pending, then_deliver, settled, named_by, named_along, IsNamedIn}
-use Rattle.ring_node.specs.Naming.{Namings}
+use Rattle.ring_model.specs.Deliveries.{deliveries, pending, then_deliver, settled}
+use Rattle.message_model.specs.Naming.{named_by, named_along, IsNamedIn}
 use Rattle.ring_world.specs.Standing.{Standing}
 use Rattle.ring_world.specs.Worlds.{IsWorld, WorldStands}
 use Rattle.ring_world.specs.Settles.{SweptBy, Swept, Settles, HoldsMore}
@@ -80,8 +81,8 @@ delivered_not_due skipped done a =
 -- ---- settling
 
 -- nothing was delivered yet
-pub swept_none : {N : Type 0} (stands : Standing N) (g : Ring) (namings : Namings) (skipped : Place → Bool) (events : List Event) (w : World N) → WorldStands stands g namings w events → Swept stands g namings skipped events w 0
-swept_none stands g namings skipped events w h = record { is = h; passed = tt; size = refl }
+pub swept_none : {N : Type 0} (stands : Standing N) (g : Ring) (skipped : Place → Bool) (events : List Event) (w : World N) → WorldStands stands g w events → Swept stands g skipped events w 0
+swept_none stands g skipped events w h = record { is = h; passed = tt; size = refl }
 
 -- parties of a place are declared
 pub place_declared : (g : Ring) (E : List Event) (number : ℕ) (a : Place) → IsLegal g E → slice_get (places (world g E).sent) number ≡ Some a → IsParty g a.from × IsParty g a.to
@@ -99,14 +100,14 @@ came_front g v None = ([], sym (append-nil v.sent))
 came_front g v (Some x) = (_, refl)
 
 -- what was pending is delivered
-pub swept_one : {N : Type 0} (stands : Standing N) (g : Ring) (namings : Namings) (skipped : Place → Bool) (events : List Event) (w new : World N) (count : ℕ) (a : Place)
-    → pending g skipped (settled g skipped events count ++ events) ≡ Some a → Swept stands g namings skipped events w count
-    → IsWorld stands g namings new (came g (world g (settled g skipped events count ++ events)) (slice_get (between a.from a.to (world g (settled g skipped events count ++ events)).sent) a.place))
+pub swept_one : {N : Type 0} (stands : Standing N) (g : Ring) (skipped : Place → Bool) (events : List Event) (w new : World N) (count : ℕ) (a : Place)
+    → pending g skipped (settled g skipped events count ++ events) ≡ Some a → Swept stands g skipped events w count
+    → IsWorld stands g new (came g (world g (settled g skipped events count ++ events)) (slice_get (between a.from a.to (world g (settled g skipped events count ++ events)).sent) a.place))
     (deliveries g (settled g skipped events count ++ events) ++ delivery (world g (settled g skipped events count ++ events)).sent a)
-    → Swept stands g namings skipped events new (count + 1)
-swept_one {N} stands g namings skipped events w new count a e h is =
-    subst (Swept stands g namings skipped events new) next
-    (subst (SweptBy stands g namings skipped events new (suc count)) (sym (ap (λ o. then_deliver o (settled g skipped events count)) e))
+    → Swept stands g skipped events new (count + 1)
+swept_one {N} stands g skipped events w new count a e h is =
+    subst (Swept stands g skipped events new) next
+    (subst (SweptBy stands g skipped events new (suc count)) (sym (ap (λ o. then_deliver o (settled g skipped events count)) e))
     (record { is = record { is = is; legal = (pending_declared g skipped E a h.is.legal e, h.is.legal) }; passed = passed; size = ap suc h.size }))
   where
     next : suc count ≡ count + 1
@@ -141,9 +142,9 @@ swept_one {N} stands g namings skipped events w new count a e h is =
         (take_front (λ b. is_due skipped (deliveries g E ++ a ∷ []) b ≡ false) (places (world g E).sent) (placed (world g E).sent front.0) (suc count) within less))
 
 -- where nothing is pending, all is settled
-pub swept_all : {N : Type 0} (stands : Standing N) (g : Ring) (namings : Namings) (skipped : Place → Bool) (events : List Event) (w : World N) (count : ℕ)
-    → pending g skipped (settled g skipped events count ++ events) ≡ None → Swept stands g namings skipped events w count → Settles stands g namings skipped events w count
-swept_all stands g namings skipped events w count none h = record { is = h.is; count = h.size; all = none }
+pub swept_all : {N : Type 0} (stands : Standing N) (g : Ring) (skipped : Place → Bool) (events : List Event) (w : World N) (count : ℕ)
+    → pending g skipped (settled g skipped events count ++ events) ≡ None → Swept stands g skipped events w count → Settles stands g skipped events w count
+swept_all stands g skipped events w count none h = record { is = h.is; count = h.size; all = none }
 
 -- no list is longer than its notes
 pub few_places : (m : Mail) (sent : List Sent) (done : List Place) → IsMail m sent done → length (places sent) ≤ 4294967295
@@ -152,25 +153,25 @@ few_places m sent done h =
     omega (arith, size, m.few)
 
 -- as many deliveries as there may be messages leave nothing pending
-pub swept_most : {N : Type 0} (stands : Standing N) (g : Ring) (namings : Namings) (skipped : Place → Bool) (events : List Event) (w : World N) (count : ℕ) → 4294967295 ≤ count
-    → Swept stands g namings skipped events w count → pending g skipped (settled g skipped events count ++ events) ≡ None
-swept_most stands g namings skipped events w count most h =
+pub swept_most : {N : Type 0} (stands : Standing N) (g : Ring) (skipped : Place → Bool) (events : List Event) (w : World N) (count : ℕ) → 4294967295 ≤ count
+    → Swept stands g skipped events w count → pending g skipped (settled g skipped events count ++ events) ≡ None
+swept_most stands g skipped events w count most h =
     let few : length (places (world g (settled g skipped events count ++ events)).sent) ≤ 4294967295 = few_places w.mail (world g (settled g skipped events count ++ events)).sent (deliveries g (settled g skipped events count ++ events)) h.is.is.mail_is in
     find_nothing (is_due skipped (deliveries g (settled g skipped events count ++ events))) (places (world g (settled g skipped events count ++ events)).sent) count (omega (arith, few, most)) h.passed
 
 -- ---- what the deliveries name
 
 -- nothing was named yet
-pub more_none : (h : List ℕ → List ℕ) (g : Ring) (namings : Namings) (events : List Event) (held : Held) → HoldsMore h g namings events [] held held
-more_none h g namings events held = record { held = refl; all = held_none h held; grew = grew_none h held (Contains []) }
+pub more_none : (h : List ℕ → List ℕ) (g : Ring) (events : List Event) (held : Held) → HoldsMore h g events [] held held
+more_none h g events held = record { held = refl; all = held_none h held; grew = grew_none h held (Contains []) }
 
 -- a delivery more
-more_then : (h : List ℕ → List ℕ) (g : Ring) (namings : Namings) (events late : List Event) (a : Place) (first now new : Held)
-    → new ≡ keep_all h (named_by g namings (world g (late ++ events)) (Deliver a.from a.to a.place)) now
-    → Grew h now (Contains (named_by g namings (world g (late ++ events)) (Deliver a.from a.to a.place))) new
-    → AreHeld h new (named_by g namings (world g (late ++ events)) (Deliver a.from a.to a.place))
-    → HoldsMore h g namings events late first now → HoldsMore h g namings events (Deliver a.from a.to a.place ∷ late) first new
-more_then h g namings events late a first now new is grew all m =
+more_then : (h : List ℕ → List ℕ) (g : Ring) (events late : List Event) (a : Place) (first now new : Held)
+    → new ≡ keep_all h (named_by g (world g (late ++ events)) (Deliver a.from a.to a.place)) now
+    → Grew h now (Contains (named_by g (world g (late ++ events)) (Deliver a.from a.to a.place))) new
+    → AreHeld h new (named_by g (world g (late ++ events)) (Deliver a.from a.to a.place))
+    → HoldsMore h g events late first now → HoldsMore h g events (Deliver a.from a.to a.place ∷ late) first new
+more_then h g events late a first now new is grew all m =
     record {
       held = is ∙ ap (keep_all h ys) m.held ∙ sym (keep_append h xs ys first);
       all = held_then h now new xs ys grew.kept m.all all;
@@ -178,83 +179,83 @@ more_then h g namings events late a first now new is grew all m =
     }
   where
     xs : List (List ℕ)
-    xs = named_along g namings events late
+    xs = named_along g events late
 
     ys : List (List ℕ)
-    ys = named_by g namings (world g (late ++ events)) (Deliver a.from a.to a.place)
+    ys = named_by g (world g (late ++ events)) (Deliver a.from a.to a.place)
 
 -- the next delivery of a settle is of what is due first
 next_settled : (g : Ring) (skipped : Place → Bool) (events : List Event) (count : ℕ) (a : Place) → pending g skipped (settled g skipped events count ++ events) ≡ Some a
     → Deliver a.from a.to a.place ∷ settled g skipped events count ≡ settled g skipped events (suc count)
 next_settled g skipped events count a e = sym (ap (λ o. then_deliver o (settled g skipped events count)) e)
 
-pub turned_more : (h : List ℕ → List ℕ) (g : Ring) (namings : Namings) (skipped : Place → Bool) (events : List Event) (count : ℕ) (a : Place) (first now new : Held)
+pub turned_more : (h : List ℕ → List ℕ) (g : Ring) (skipped : Place → Bool) (events : List Event) (count : ℕ) (a : Place) (first now new : Held)
     → pending g skipped (settled g skipped events count ++ events) ≡ Some a
-    → new ≡ keep_all h (named_by g namings (world g (settled g skipped events count ++ events)) (Deliver a.from a.to a.place)) now
-    → Grew h now (Contains (named_by g namings (world g (settled g skipped events count ++ events)) (Deliver a.from a.to a.place))) new
-    → AreHeld h new (named_by g namings (world g (settled g skipped events count ++ events)) (Deliver a.from a.to a.place))
-    → HoldsMore h g namings events (settled g skipped events count) first now → HoldsMore h g namings events (settled g skipped events (count + 1)) first new
-turned_more h g namings skipped events count a first now new e is grew all m =
-    subst (λ n. HoldsMore h g namings events (settled g skipped events n) first new) next
-    (subst (λ late. HoldsMore h g namings events late first new) (next_settled g skipped events count a e)
-    (more_then h g namings events (settled g skipped events count) a first now new is grew all m))
+    → new ≡ keep_all h (named_by g (world g (settled g skipped events count ++ events)) (Deliver a.from a.to a.place)) now
+    → Grew h now (Contains (named_by g (world g (settled g skipped events count ++ events)) (Deliver a.from a.to a.place))) new
+    → AreHeld h new (named_by g (world g (settled g skipped events count ++ events)) (Deliver a.from a.to a.place))
+    → HoldsMore h g events (settled g skipped events count) first now → HoldsMore h g events (settled g skipped events (count + 1)) first new
+turned_more h g skipped events count a first now new e is grew all m =
+    subst (λ n. HoldsMore h g events (settled g skipped events n) first new) next
+    (subst (λ late. HoldsMore h g events late first new) (next_settled g skipped events count a e)
+    (more_then h g events (settled g skipped events count) a first now new is grew all m))
   where
     next : suc count ≡ count + 1
     next = omega arith
 
 -- a delivery that fails names strings of the settle alone
-pub turned_failed : (h : List ℕ → List ℕ) (g : Ring) (namings : Namings) (skipped : Place → Bool) (events : List Event) (count : ℕ) (a : Place) (first now new : Held) (fault : NameFault)
+pub turned_failed : (h : List ℕ → List ℕ) (g : Ring) (skipped : Place → Bool) (events : List Event) (count : ℕ) (a : Place) (first now new : Held) (fault : NameFault)
     → pending g skipped (settled g skipped events count ++ events) ≡ Some a
     → suc count < 2 ^ 32
-    → Grew h now (Contains (named_by g namings (world g (settled g skipped events count ++ events)) (Deliver a.from a.to a.place))) new
-    → IsClashIn h new (Contains (named_by g namings (world g (settled g skipped events count ++ events)) (Deliver a.from a.to a.place))) fault
-    → HoldsMore h g namings events (settled g skipped events count) first now
-    → Grew h first (IsNamedIn g namings skipped events) new × IsClashIn h new (IsNamedIn g namings skipped events) fault
-turned_failed h g namings skipped events count a first now new fault e low grew clash m = (
-  grew_then h first now new (Contains xs) (Contains ys) (IsNamedIn g namings skipped events) (λ s there. (count, omega (arith, low), there)) later m.grew grew,
-  clash_wider h new (Contains ys) (IsNamedIn g namings skipped events) fault later clash,
+    → Grew h now (Contains (named_by g (world g (settled g skipped events count ++ events)) (Deliver a.from a.to a.place))) new
+    → IsClashIn h new (Contains (named_by g (world g (settled g skipped events count ++ events)) (Deliver a.from a.to a.place))) fault
+    → HoldsMore h g events (settled g skipped events count) first now
+    → Grew h first (IsNamedIn g skipped events) new × IsClashIn h new (IsNamedIn g skipped events) fault
+turned_failed h g skipped events count a first now new fault e low grew clash m = (
+  grew_then h first now new (Contains xs) (Contains ys) (IsNamedIn g skipped events) (λ s there. (count, omega (arith, low), there)) later m.grew grew,
+  clash_wider h new (Contains ys) (IsNamedIn g skipped events) fault later clash,
 )
   where
     xs : List (List ℕ)
-    xs = named_along g namings events (settled g skipped events count)
+    xs = named_along g events (settled g skipped events count)
 
     ys : List (List ℕ)
-    ys = named_by g namings (world g (settled g skipped events count ++ events)) (Deliver a.from a.to a.place)
+    ys = named_by g (world g (settled g skipped events count ++ events)) (Deliver a.from a.to a.place)
 
-    later : (s : List ℕ) → Contains ys s → IsNamedIn g namings skipped events s
-    later s there = (suc count, low, subst (λ late. Contains (named_along g namings events late) s) (next_settled g skipped events count a e) (Contains-append_right xs ys s there))
+    later : (s : List ℕ) → Contains ys s → IsNamedIn g skipped events s
+    later s there = (suc count, low, subst (λ late. Contains (named_along g events late) s) (next_settled g skipped events count a e) (Contains-append_right xs ys s there))
 
 -- where something is pending there is room for one delivery more
-pub room_for : {N : Type 0} (stands : Standing N) (g : Ring) (namings : Namings) (skipped : Place → Bool) (events : List Event) (w : World N) (count : ℕ) (a : Place) → pending g skipped (settled g skipped events count ++ events) ≡ Some a
-    → Swept stands g namings skipped events w count → suc count < 2 ^ 32
-room_for stands g namings skipped events w count a e h =
+pub room_for : {N : Type 0} (stands : Standing N) (g : Ring) (skipped : Place → Bool) (events : List Event) (w : World N) (count : ℕ) (a : Place) → pending g skipped (settled g skipped events count ++ events) ≡ Some a
+    → Swept stands g skipped events w count → suc count < 2 ^ 32
+room_for stands g skipped events w count a e h =
     let few : length (places (world g (settled g skipped events count ++ events)).sent) ≤ 4294967295 = few_places w.mail (world g (settled g skipped events count ++ events)).sent (deliveries g (settled g skipped events count ++ events)) h.is.is.mail_is in
     let within = found_within (is_due skipped (deliveries g (settled g skipped events count ++ events))) (places (world g (settled g skipped events count ++ events)).sent) count a e h.passed in
     omega (arith, few, within)
 
 -- what a settle holds more is named in it
-pub more_grew : (h : List ℕ → List ℕ) (g : Ring) (namings : Namings) (skipped : Place → Bool) (events : List Event) (n : ℕ) (first now : Held) → n < 2 ^ 32
-    → HoldsMore h g namings events (settled g skipped events n) first now → Grew h first (IsNamedIn g namings skipped events) now
-more_grew h g namings skipped events n first now low m =
-    grew_then h first now now (Contains (named_along g namings events (settled g skipped events n))) (IsNamedIn g namings skipped events) (IsNamedIn g namings skipped events) (λ s there. (n, low, there)) (λ s there. there)
-    m.grew (grew_none h now (IsNamedIn g namings skipped events))
+pub more_grew : (h : List ℕ → List ℕ) (g : Ring) (skipped : Place → Bool) (events : List Event) (n : ℕ) (first now : Held) → n < 2 ^ 32
+    → HoldsMore h g events (settled g skipped events n) first now → Grew h first (IsNamedIn g skipped events) now
+more_grew h g skipped events n first now low m =
+    grew_then h first now now (Contains (named_along g events (settled g skipped events n))) (IsNamedIn g skipped events) (IsNamedIn g skipped events) (λ s there. (n, low, there)) (λ s there. there)
+    m.grew (grew_none h now (IsNamedIn g skipped events))
 
 -- ---- what is named, however many deliveries are done
 
-named_next : (g : Ring) (namings : Namings) (events late : List Event) (o : Option Place) (s : List ℕ) → Contains (named_along g namings events late) s → Contains (named_along g namings events (then_deliver o late)) s
-named_next g namings events late None s there = there
-named_next g namings events late (Some a) s there = Contains-append_left (named_along g namings events late) (named_by g namings (world g (late ++ events)) (Deliver a.from a.to a.place)) s there
+named_next : (g : Ring) (events late : List Event) (o : Option Place) (s : List ℕ) → Contains (named_along g events late) s → Contains (named_along g events (then_deliver o late)) s
+named_next g events late None s there = there
+named_next g events late (Some a) s there = Contains-append_left (named_along g events late) (named_by g (world g (late ++ events)) (Deliver a.from a.to a.place)) s there
 
 -- more deliveries name more
-named_more : (g : Ring) (namings : Namings) (skipped : Place → Bool) (events : List Event) (m n : ℕ) (s : List ℕ) → m ≤ n
-    → Contains (named_along g namings events (settled g skipped events m)) s → Contains (named_along g namings events (settled g skipped events n)) s
-named_more g namings skipped events m zero s low there =
-    let none : m ≡ 0 = omega (arith, low) in subst (λ k. Contains (named_along g namings events (settled g skipped events k)) s) none there
-named_more g namings skipped events m (suc n) s low there =
+named_more : (g : Ring) (skipped : Place → Bool) (events : List Event) (m n : ℕ) (s : List ℕ) → m ≤ n
+    → Contains (named_along g events (settled g skipped events m)) s → Contains (named_along g events (settled g skipped events n)) s
+named_more g skipped events m zero s low there =
+    let none : m ≡ 0 = omega (arith, low) in subst (λ k. Contains (named_along g events (settled g skipped events k)) s) none there
+named_more g skipped events m (suc n) s low there =
     ⊎_elim
-    (λ less. named_next g namings events (settled g skipped events n) (pending g skipped (settled g skipped events n ++ events)) s
-    (named_more g namings skipped events m n s (let below : m ≤ n = omega (arith, less) in below) there))
-    (λ more. let same : m ≡ suc n = omega (arith, low, more) in subst (λ k. Contains (named_along g namings events (settled g skipped events k)) s) same there)
+    (λ less. named_next g events (settled g skipped events n) (pending g skipped (settled g skipped events n ++ events)) s
+    (named_more g skipped events m n s (let below : m ≤ n = omega (arith, less) in below) there))
+    (λ more. let same : m ≡ suc n = omega (arith, low, more) in subst (λ k. Contains (named_along g events (settled g skipped events k)) s) same there)
     (cases_lt m (suc n))
 
 -- once nothing is pending no delivery is left
@@ -269,15 +270,15 @@ settled_stays g skipped events n (suc m) none low =
     (cases_lt n (suc m))
 
 -- what any number of deliveries names is named by those of a settle
-all_named : (g : Ring) (namings : Namings) (skipped : Place → Bool) (events : List Event) (n : ℕ) (s : List ℕ) → pending g skipped (settled g skipped events n ++ events) ≡ None
-    → IsNamedIn g namings skipped events s → Contains (named_along g namings events (settled g skipped events n)) s
-all_named g namings skipped events n s none named =
-    ⊎_elim (λ less. named_more g namings skipped events named.0 n s (let below : named.0 ≤ n = omega (arith, less) in below) named.2)
-    (λ more. subst (λ late. Contains (named_along g namings events late) s) (settled_stays g skipped events n named.0 none more) named.2) (cases_lt named.0 n)
+all_named : (g : Ring) (skipped : Place → Bool) (events : List Event) (n : ℕ) (s : List ℕ) → pending g skipped (settled g skipped events n ++ events) ≡ None
+    → IsNamedIn g skipped events s → Contains (named_along g events (settled g skipped events n)) s
+all_named g skipped events n s none named =
+    ⊎_elim (λ less. named_more g skipped events named.0 n s (let below : named.0 ≤ n = omega (arith, less) in below) named.2)
+    (λ more. subst (λ late. Contains (named_along g events late) s) (settled_stays g skipped events n named.0 none more) named.2) (cases_lt named.0 n)
 
 -- a settle that answers no fault names no two different strings of one name
-pub settled_apart : (h : List ℕ → List ℕ) (g : Ring) (namings : Namings) (skipped : Place → Bool) (events : List Event) (n : ℕ) (first now : Held) → pending g skipped (settled g skipped events n ++ events) ≡ None
-    → HoldsMore h g namings events (settled g skipped events n) first now → NoneClash h first (IsNamedIn g namings skipped events)
-settled_apart h g namings skipped events n first now none m =
-    none_clash h first now (IsNamedIn g namings skipped events) m.grew.kept
-    (λ s named. All-contains (Holds h now) (named_along g namings events (settled g skipped events n)) s m.all (all_named g namings skipped events n s none named))
+pub settled_apart : (h : List ℕ → List ℕ) (g : Ring) (skipped : Place → Bool) (events : List Event) (n : ℕ) (first now : Held) → pending g skipped (settled g skipped events n ++ events) ≡ None
+    → HoldsMore h g events (settled g skipped events n) first now → NoneClash h first (IsNamedIn g skipped events)
+settled_apart h g skipped events n first now none m =
+    none_clash h first now (IsNamedIn g skipped events) m.grew.kept
+    (λ s named. All-contains (Holds h now) (named_along g events (settled g skipped events n)) s m.all (all_named g skipped events n s none named))

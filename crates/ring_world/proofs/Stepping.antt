@@ -7,18 +7,18 @@ use Rattle.circular_buffer.specs.Buffer.{Buffer, buffer, keep_last}
 use Rattle.ring_model.specs.Messages.{Ring, Party as Who, Packet as Sent, Member as member, Client as client, same_party}
 use Rattle.ring_model.specs.World.{World as Model, between, came, IsParty}
 use Rattle.message_model.specs.Meaning.{who, meaning}
-use Rattle.ring_mail.specs.Seats.{IsSeat}
-use Rattle.ring_node.specs.Naming.{Namings}
+use Rattle.ring_model.specs.Seats.{IsSeat}
 use Rattle.ring_mail.specs.declared.kept.Mail.{Mail}
 use Rattle.ring_mail.specs.declared.kept.Note.{Note}
-use Rattle.ring_mail.specs.Places.{Place, delivery, place_of, packet_of}
+use Rattle.ring_model.specs.Places.{Place, delivery}
+use Rattle.ring_mail.specs.Places.{place_of, packet_of}
 use Rattle.ring_mail.specs.Mails.{IsMail}
 use Rattle.ring_mail.proofs.Keeping.{delivery_there, delivery_none, filter-short, length-placed}
 use Rattle.ring_world.specs.declared.members.Members.{Members}
 use Rattle.ring_world.specs.declared.state.World.{World}
 use Rattle.ring_world.specs.Standing.{Standing}
 use Rattle.ring_world.specs.Crew.{AreMembers, with_letter, owed_for}
-use Rattle.ring_world.specs.Skipping.{Told, told, counted}
+use Rattle.message_model.specs.Told.{Told, told, counted}
 use Rattle.ring_world.specs.Steps.{IsDeclared}
 use Rattle.ring_world.specs.Worlds.{IsSmall, IsWorld, place_in}
 
@@ -32,12 +32,12 @@ posted_more f sent xs i x low is =
 -- ---- a member's turn
 
 -- a member was handed a letter, and what it owes was sent
-pub handed : {N : Type 0} (stands : Standing N) (g : Ring) (namings : Namings) (w : World N) (v : Model) (done : List Place) (from : Who) (i : ℕ) (bytes : List ℕ) (m : Members N) (mail : Mail)
-    → AreMembers stands g namings m (with_letter v.got (member i) (record { from = from; message = meaning bytes }))
+pub handed : {N : Type 0} (stands : Standing N) (g : Ring) (w : World N) (v : Model) (done : List Place) (from : Who) (i : ℕ) (bytes : List ℕ) (m : Members N) (mail : Mail)
+    → AreMembers stands g m (with_letter v.got (member i) (record { from = from; message = meaning bytes })) v.archived
     → IsMail mail (v.sent ++ owed_for g i (v.got (member i)) (record { from = from; message = meaning bytes })) done
-    → IsWorld stands g namings w v done
-    → IsWorld stands g namings (record w { members = m; mail = mail }) (came g v (Some (packet_of from (member i) bytes))) done
-handed stands g namings w v done from i bytes m mail are posted h =
+    → IsWorld stands g w v done
+    → IsWorld stands g (record w { members = m; mail = mail }) (came g v (Some (packet_of from (member i) bytes))) done
+handed stands g w v done from i bytes m mail are posted h =
     record {
       small = h.small;
       mail_is = posted;
@@ -100,10 +100,10 @@ pub told_place : (n : Note) (k : ℕ) (t : Told) → t ≡ (n.from, n.to, k) →
 told_place n k t is next = ap told is ∙ ap (λ k. (who n.from, who n.to, k)) next
 
 -- a message was taken out, and is the last one
-pub marked_world : {N : Type 0} (stands : Standing N) (g : Ring) (namings : Namings) (w : World N) (v : Model) (done : List Place) (a : Place) (t : Told) (mail : Mail) (recent : Buffer Told)
-    → IsMail mail v.sent (done ++ a ∷ []) → recent ≡ buffer (keep_last w.recent.capacity (w.recent.items ++ t ∷ [])) w.recent.capacity → told t ≡ counted a → IsWorld stands g namings w v done
-    → IsWorld stands g namings (record w { mail = mail; recent = recent }) v (done ++ a ∷ [])
-marked_world stands g namings w v done a t mail recent posted is same h =
+pub marked_world : {N : Type 0} (stands : Standing N) (g : Ring) (w : World N) (v : Model) (done : List Place) (a : Place) (t : Told) (mail : Mail) (recent : Buffer Told)
+    → IsMail mail v.sent (done ++ a ∷ []) → recent ≡ buffer (keep_last w.recent.capacity (w.recent.items ++ t ∷ [])) w.recent.capacity → told t ≡ counted a → IsWorld stands g w v done
+    → IsWorld stands g (record w { mail = mail; recent = recent }) v (done ++ a ∷ [])
+marked_world stands g w v done a t mail recent posted is same h =
     record {
       small = h.small;
       mail_is = posted;
@@ -116,9 +116,9 @@ marked_world stands g namings w v done a t mail recent posted is same h =
     }
 
 -- only the mail changed
-pub same_mail : {N : Type 0} (stands : Standing N) (g : Ring) (namings : Namings) (w : World N) (v : Model) (done : List Place) (mail : Mail) → IsMail mail v.sent done → IsWorld stands g namings w v done
-    → IsWorld stands g namings (record w { mail = mail }) v done
-same_mail stands g namings w v done mail posted h =
+pub same_mail : {N : Type 0} (stands : Standing N) (g : Ring) (w : World N) (v : Model) (done : List Place) (mail : Mail) → IsMail mail v.sent done → IsWorld stands g w v done
+    → IsWorld stands g (record w { mail = mail }) v done
+same_mail stands g w v done mail posted h =
     record {
       small = h.small;
       mail_is = posted;
@@ -134,20 +134,20 @@ abbrev pub at_place : Who → Who → ℕ → Place
 at_place p q k = record { from = p; to = q; place = k }
 
 -- where the link has a message there
-pub delivered_some : {N : Type 0} (stands : Standing N) (g : Ring) (namings : Namings) (new : World N) (v : Model) (done : List Place) (p q : Who) (k : ℕ) (x : Sent)
-    → Some x ≡ slice_get (between p q v.sent) k → IsWorld stands g namings new (came g v (Some x)) (done ++ at_place p q k ∷ [])
-    → IsWorld stands g namings new (came g v (slice_get (between p q v.sent) k)) (done ++ delivery v.sent (at_place p q k))
-delivered_some stands g namings new v done p q k x is h =
-    subst (λ o. IsWorld stands g namings new (came g v o) (done ++ delivery v.sent (at_place p q k))) is
-    (subst (λ ds. IsWorld stands g namings new (came g v (Some x)) (done ++ ds)) (sym (delivery_there v.sent (at_place p q k) x (sym is))) h)
+pub delivered_some : {N : Type 0} (stands : Standing N) (g : Ring) (new : World N) (v : Model) (done : List Place) (p q : Who) (k : ℕ) (x : Sent)
+    → Some x ≡ slice_get (between p q v.sent) k → IsWorld stands g new (came g v (Some x)) (done ++ at_place p q k ∷ [])
+    → IsWorld stands g new (came g v (slice_get (between p q v.sent) k)) (done ++ delivery v.sent (at_place p q k))
+delivered_some stands g new v done p q k x is h =
+    subst (λ o. IsWorld stands g new (came g v o) (done ++ delivery v.sent (at_place p q k))) is
+    (subst (λ ds. IsWorld stands g new (came g v (Some x)) (done ++ ds)) (sym (delivery_there v.sent (at_place p q k) x (sym is))) h)
 
 -- where it has none
-pub delivered_none : {N : Type 0} (stands : Standing N) (g : Ring) (namings : Namings) (w : World N) (v : Model) (done : List Place) (mail : Mail) (p q : Who) (k : ℕ)
-    → None ≡ slice_get (between p q v.sent) k → IsMail mail v.sent (done ++ delivery v.sent (at_place p q k)) → IsWorld stands g namings w v done
-    → IsWorld stands g namings (record w { mail = mail }) (came g v (slice_get (between p q v.sent) k)) (done ++ delivery v.sent (at_place p q k))
-delivered_none {N} stands g namings w v done mail p q k is posted h =
-    subst (λ o. IsWorld stands g namings new (came g v o) (done ++ delivery v.sent (at_place p q k))) is
-    (subst (IsWorld stands g namings new v) (sym same) (same_mail stands g namings w v done mail (subst (IsMail mail v.sent) same posted) h))
+pub delivered_none : {N : Type 0} (stands : Standing N) (g : Ring) (w : World N) (v : Model) (done : List Place) (mail : Mail) (p q : Who) (k : ℕ)
+    → None ≡ slice_get (between p q v.sent) k → IsMail mail v.sent (done ++ delivery v.sent (at_place p q k)) → IsWorld stands g w v done
+    → IsWorld stands g (record w { mail = mail }) (came g v (slice_get (between p q v.sent) k)) (done ++ delivery v.sent (at_place p q k))
+delivered_none {N} stands g w v done mail p q k is posted h =
+    subst (λ o. IsWorld stands g new (came g v o) (done ++ delivery v.sent (at_place p q k))) is
+    (subst (IsWorld stands g new v) (sym same) (same_mail stands g w v done mail (subst (IsMail mail v.sent) same posted) h))
   where
     new : World N
     new = record w { mail = mail }
@@ -173,11 +173,11 @@ place_less sent zero some = absurd (some refl)
 place_less sent (suc k) some = let less : k ≡ suc k - 1 = omega arith in less
 
 -- a delivery of place 0 changes nothing
-pub delivered_nothing : {N : Type 0} (stands : Standing N) (g : Ring) (namings : Namings) (w : World N) (v : Model) (done : List Place) (p q : Who) (k : ℕ) → k ≡ 0 → IsWorld stands g namings w v done
-    → IsWorld stands g namings w (came g v (slice_get (between p q v.sent) (place_in v.sent k))) (done ++ delivery v.sent (at_place p q (place_in v.sent k)))
-delivered_nothing stands g namings w v done p q k none h =
-    subst (λ o. IsWorld stands g namings w (came g v o) (done ++ delivery v.sent (at_place p q (place_in v.sent k)))) (sym gone)
-    (subst (IsWorld stands g namings w v) (sym same) h)
+pub delivered_nothing : {N : Type 0} (stands : Standing N) (g : Ring) (w : World N) (v : Model) (done : List Place) (p q : Who) (k : ℕ) → k ≡ 0 → IsWorld stands g w v done
+    → IsWorld stands g w (came g v (slice_get (between p q v.sent) (place_in v.sent k))) (done ++ delivery v.sent (at_place p q (place_in v.sent k)))
+delivered_nothing stands g w v done p q k none h =
+    subst (λ o. IsWorld stands g w (came g v o) (done ++ delivery v.sent (at_place p q (place_in v.sent k)))) (sym gone)
+    (subst (IsWorld stands g w v) (sym same) h)
   where
     gone : slice_get (between p q v.sent) (place_in v.sent k) ≡ None
     gone = nothing_there v.sent p q k none

@@ -13,13 +13,13 @@ use Rattle.message_model.specs.Meaning.{who, meaning}
 use Rattle.client_core.specs.declared.client.Client.{Client}
 use Rattle.client_core.specs.Clients.{ClientStands}
 use Rattle.message_model.specs.Members.{IsMember}
-use Rattle.ring_node.specs.Naming.{Namings}
-use Rattle.ring_mail.specs.Places.{Place, packet_of}
+use Rattle.ring_model.specs.Places.{Place}
+use Rattle.ring_mail.specs.Places.{packet_of}
 use Rattle.ring_mail.specs.Mails.{IsMail}
-use Rattle.ring_mail.specs.Seats.{IsSeat}
+use Rattle.ring_model.specs.Seats.{IsSeat}
 use Rattle.ring_world.specs.declared.state.World.{World}
 use Rattle.ring_world.specs.Standing.{Standing}
-use Rattle.ring_world.specs.Skipping.{Told, told}
+use Rattle.message_model.specs.Told.{Told, told}
 use Rattle.ring_world.specs.Worlds.{IsWorld, WorldStands, IsStart}
 
 -- whether the request is of this client
@@ -54,15 +54,15 @@ all_seats outs all = Each-weaker (λ (out : Out). IsMember (who out.to)) (λ (ou
     seat (client c) low = absurd low
 
 -- a client of the world stands for its requests and letters
-pub client_at : {N : Type 0} (stands : Standing N) (g : Ring) (namings : Namings) (w : World N) (v : Model) (done : List Place) (c : ℕ) (d one : Client) → c < length w.clients.items → one ≡ get_or w.clients.items c d
-    → IsWorld stands g namings w v done → ClientStands one g c (filter (of g c) v.submits) (v.got (client c))
-client_at stands g namings w v done c d one low is h = subst (λ (k : Client). ClientStands k g c (filter (of g c) v.submits) (v.got (client c))) (sym is) (h.clients_stand c d (omega (arith, low, h.client_count)))
+pub client_at : {N : Type 0} (stands : Standing N) (g : Ring) (w : World N) (v : Model) (done : List Place) (c : ℕ) (d one : Client) → c < length w.clients.items → one ≡ get_or w.clients.items c d
+    → IsWorld stands g w v done → ClientStands one g c (filter (of g c) v.submits) (v.got (client c))
+client_at stands g w v done c d one low is h = subst (λ (k : Client). ClientStands k g c (filter (of g c) v.submits) (v.got (client c))) (sym is) (h.clients_stand c d (omega (arith, low, h.client_count)))
 
 -- a client was handed a letter, which sends nothing
-pub told_client : {N : Type 0} (stands : Standing N) (g : Ring) (namings : Namings) (w : World N) (v : Model) (done : List Place) (from : Who) (c : ℕ) (bytes : List ℕ) (new : Client) → c < length w.clients.items
-    → ClientStands new g c (filter (of g c) v.submits) (record { from = from; message = meaning bytes } ∷ v.got (client c)) → IsWorld stands g namings w v done
-    → IsWorld stands g namings (record w { clients = with_item w.clients c new }) (came g v (Some (packet_of from (client c) bytes))) done
-told_client stands g namings w v done from c bytes new low is h =
+pub told_client : {N : Type 0} (stands : Standing N) (g : Ring) (w : World N) (v : Model) (done : List Place) (from : Who) (c : ℕ) (bytes : List ℕ) (new : Client) → c < length w.clients.items
+    → ClientStands new g c (filter (of g c) v.submits) (record { from = from; message = meaning bytes } ∷ v.got (client c)) → IsWorld stands g w v done
+    → IsWorld stands g (record w { clients = with_item w.clients c new }) (came g v (Some (packet_of from (client c) bytes))) done
+told_client stands g w v done from c bytes new low is h =
     record {
       small = h.small;
       mail_is = subst (λ xs. IsMail w.mail xs done) (sym (append-nil v.sent)) h.mail_is;
@@ -81,10 +81,10 @@ told_client stands g namings w v done from c bytes new low is h =
     got k mine = cond mine (record { from = from; message = meaning bytes } ∷ v.got (client k)) (v.got (client k))
 
 -- no client submitted anything, and nothing happened
-pub starts : {N : Type 0} (stands : Standing N) (g : Ring) (namings : Namings) (w : World N) (f count : ℕ) → IsStart stands g namings w.members.nodes.items w.members.faulty.items count → length w.members.nodes.items ≡ 3 * f + 1
+pub starts : {N : Type 0} (stands : Standing N) (g : Ring) (w : World N) (f count : ℕ) → IsStart stands g w.members.nodes.items w.members.faulty.items count → length w.members.nodes.items ≡ 3 * f + 1
     → ((r : Ring) → r.f ≡ f → (c : ℕ) (d : Client) → c < count → ClientStands (get_or w.clients.items c d) r c [] []) → length w.clients.items ≡ count → IsMail w.mail [] [] → w.recent ≡ buffer [] 8 → w.ended ≡ false
-    → WorldStands stands g namings w []
-starts stands g namings w f count s size stand clients mail recent going = record {
+    → WorldStands stands g w []
+starts stands g w f count s size stand clients mail recent going = record {
   is = record {
     small = s.small;
     mail_is = mail;

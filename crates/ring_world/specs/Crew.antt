@@ -7,15 +7,14 @@ use Rattle.ring_model.specs.Member.{causes}
 use Rattle.ring_model.specs.World.{IsParty}
 use Rattle.message_model.specs.Meaning.{who}
 use Rattle.message_model.specs.Reading.{IsRingOf}
-use Rattle.ring_node.specs.Naming.{Namings, strings_for}
 use Rattle.ring_world.specs.declared.members.Members.{Members}
 use Rattle.ring_world.specs.Standing.{Standing, Knowing}
 
--- the flags tell who is faulty, and each correct member's node stands for what was delivered to it
-pub record AreMembers {N : Type 0} (stands : Standing N) (g : Ring) (namings : Namings) (m : Members N) (got : Party → List Letter) : Type 0 where
+-- the flags tell who is faulty, and each correct member's node stands for what was delivered to it and for how many versions it archived
+pub record AreMembers {N : Type 0} (stands : Standing N) (g : Ring) (m : Members N) (got : Party → List Letter) (archived : ℕ → ℕ) : Type 0 where
   pub count : length m.nodes.items ≡ 3 * g.f + 1
   pub faulty_are : (i : ℕ) (d : Bool) → i < 3 * g.f + 1 → slice_index_or m.faulty.items i d ≡ g.is_faulty i
-  pub nodes_stand : (i : ℕ) (d : N) → i < 3 * g.f + 1 → g.is_faulty i ≡ false → stands (slice_index_or m.nodes.items i d) g namings i (got (Member i))
+  pub nodes_stand : (i : ℕ) (d : N) → i < 3 * g.f + 1 → g.is_faulty i ≡ false → stands (slice_index_or m.nodes.items i d) g i (got (Member i)) (archived i)
 
 -- what is held has all that the nodes named
 abbrev pub NodesKnown : {N : Type 0} → Knowing N → (List ℕ → List ℕ) → Held → Members N → Type 0
@@ -29,12 +28,7 @@ with_letter got to l p = cond (same_party to p) (l ∷ got p) (got p)
 abbrev pub owed_for : Ring → ℕ → List Letter → Letter → List Packet
 owed_for g i got l = cond (g.is_faulty i) [] (causes g i got (l ∷ got))
 
--- the strings that a party names for a letter more: clients and faulty members name none
-abbrev pub named_for : Ring → Namings → Party → List Letter → Letter → List (List ℕ)
-named_for g namings (Member i) got l = cond (g.is_faulty i) [] (strings_for g namings got l)
-named_for g namings (Client c) got l = []
-
 -- whatever was delivered before, a fact holds of it where the sender of a letter and its receiver are declared
-abbrev pub ForLetter : {N : Type 0} → Standing N → (List ℕ → List ℕ) → Members N → Sender → ℕ → (Ring → Namings → (Party → List Letter) → Type 0) → Type 0
+abbrev pub ForLetter : {N : Type 0} → Standing N → (List ℕ → List ℕ) → Members N → Sender → ℕ → (Ring → (Party → List Letter) → (ℕ → ℕ) → Type 0) → Type 0
 ForLetter stands h m from to P =
-    (g : Ring) (namings : Namings) (got : Party → List Letter) → IsRingOf h g → IsParty g (who from) → to < 3 * g.f + 1 → AreMembers stands g namings m got → P g namings got
+    (g : Ring) (got : Party → List Letter) (archived : ℕ → ℕ) → IsRingOf h g → IsParty g (who from) → to < 3 * g.f + 1 → AreMembers stands g m got archived → P g got archived

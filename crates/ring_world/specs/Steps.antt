@@ -1,5 +1,5 @@
 -- What a step asks and answers.
-use Rattle.std.specs.Prelude.{◌≡◌, ◌≢◌, ℕ, ◌+◌, ◌-◌, ◌<◌, ◌≤◌, List, length, slice_index_or, slice_get, Bool, true, false, cond, is_some, Some, filter, ◌==◌, Result, Ok, Err, IsTrue}
+use Rattle.std.specs.Prelude.{◌≡◌, ◌≢◌, ℕ, ◌+◌, ◌-◌, ◌<◌, ◌≤◌, List, length, slice_index_or, slice_get, Bool, true, false, cond, is_some, Some, None, filter, ◌==◌, Result, Ok, Err, IsTrue}
 use Rattle.std.specs.List.{sum_by}
 use Rattle.std.specs.FinMap as map
 use Rattle.block_names.specs.Held.{Held}

@@ -16,16 +16,16 @@ use Rattle.message_model.specs.Requests.{request_at}
 use Rattle.message_model.specs.Reading.{IsRingOf}
 use Rattle.client_core.specs.declared.client.Client.{Client}
 use Rattle.client_core.specs.Clients.{ClientStands, texts_of}
-use Rattle.ring_node.specs.Naming.{Namings}
-use Rattle.ring_mail.specs.Places.{Place}
+use Rattle.ring_model.specs.Places.{Place}
 use Rattle.ring_mail.specs.Mails.{IsMail}
 use Rattle.ring_world.specs.declared.event.Event.{Event}
 use Rattle.ring_world.specs.declared.event.Event.TheVariants.{Submit, Resubmit, Deliver, Forge}
 use Rattle.ring_world.specs.declared.state.World.{World}
 use Rattle.ring_world.specs.Standing.{Standing, Knowing}
 use Rattle.ring_world.specs.Crew.{AreMembers, NodesKnown}
-use Rattle.ring_world.specs.Deliveries.{deliveries, named_of}
-use Rattle.ring_world.specs.Skipping.{told, counted}
+use Rattle.ring_model.specs.Deliveries.{deliveries}
+use Rattle.message_model.specs.Naming.{named_of}
+use Rattle.message_model.specs.Told.{told, counted}
 
 -- a ring within the limits
 pub record IsSmall (g : Ring) : Type 0 where
@@ -34,10 +34,10 @@ pub record IsSmall (g : Ring) : Type 0 where
   pub slots : g.slots ≡ 65536
 
 -- what is kept is this world of the model, with these deliveries
-pub record IsWorld {N : Type 0} (stands : Standing N) (g : Ring) (namings : Namings) (w : World N) (v : Model) (done : List Place) : Type 0 where
+pub record IsWorld {N : Type 0} (stands : Standing N) (g : Ring) (w : World N) (v : Model) (done : List Place) : Type 0 where
   pub small : IsSmall g
   pub mail_is : IsMail w.mail v.sent done
-  pub members_are : AreMembers stands g namings w.members v.got
+  pub members_are : AreMembers stands g w.members v.got v.archived
   pub client_count : length w.clients.items ≡ g.clients
   pub clients_stand : (c : ℕ) (d : Client) → c < g.clients → ClientStands (slice_index_or w.clients.items c d) g c (filter (λ r. g.owner r == c) v.submits) (v.got (client c))
   pub recent_is : map told w.recent.items ≡ map counted (keep_last 8 done)
@@ -45,8 +45,8 @@ pub record IsWorld {N : Type 0} (stands : Standing N) (g : Ring) (namings : Nami
   pub going : w.ended ≡ false
 
 -- The world stands for these events, the newest first. An ended world stands for nothing.
-pub record WorldStands {N : Type 0} (stands : Standing N) (g : Ring) (namings : Namings) (w : World N) (events : List model.Event) : Type 0 where
-  pub is : IsWorld stands g namings w (world g events) (deliveries g events)
+pub record WorldStands {N : Type 0} (stands : Standing N) (g : Ring) (w : World N) (events : List model.Event) : Type 0 where
+  pub is : IsWorld stands g w (world g events) (deliveries g events)
   pub legal : IsLegal g events
 
 -- a submitted request is held, and so is the string of its label
@@ -79,28 +79,28 @@ event_of g v (Deliver p q k) = model.Event.Deliver (who p) (who q) (place_in v.s
 event_of g v (Forge i q bytes) = model.Event.Forge i.0 (who q) (meaning bytes)
 
 -- the strings that an event names: a submit the label's string and the request, a delivery those of its receiver
-abbrev pub strings_of : Ring → Namings → Model → Event → List (List ℕ)
-strings_of g namings v (Submit c label update) = label_string label ∷ request_string (next_request g v c.0 label update) ∷ []
-strings_of g namings v (Resubmit c n) = []
-strings_of g namings v (Deliver p q k) = named_of g namings v (slice_get (between (who p) (who q) v.sent) (place_in v.sent k))
-strings_of g namings v (Forge i q bytes) = []
+abbrev pub strings_of : Ring → Model → Event → List (List ℕ)
+strings_of g v (Submit c label update) = label_string label ∷ request_string (next_request g v c.0 label update) ∷ []
+strings_of g v (Resubmit c n) = []
+strings_of g v (Deliver p q k) = named_of g v (slice_get (between (who p) (who q) v.sent) (place_in v.sent k))
+strings_of g v (Forge i q bytes) = []
 
 -- whatever world of the model is kept, a fact holds of it
-abbrev pub ForWorld : {N : Type 0} → Standing N → (List ℕ → List ℕ) → World N → (Ring → Namings → Model → List Place → Type 0) → Type 0
-ForWorld stands h w P = (g : Ring) (namings : Namings) (v : Model) (done : List Place) → IsRingOf h g → IsWorld stands g namings w v done → P g namings v done
+abbrev pub ForWorld : {N : Type 0} → Standing N → (List ℕ → List ℕ) → World N → (Ring → Model → List Place → Type 0) → Type 0
+ForWorld stands h w P = (g : Ring) (v : Model) (done : List Place) → IsRingOf h g → IsWorld stands g w v done → P g v done
 
 -- whatever events the world stands for, a fact holds of them
-abbrev pub ForEvents : {N : Type 0} → Standing N → (List ℕ → List ℕ) → World N → (Ring → Namings → List model.Event → Type 0) → Type 0
-ForEvents stands h w P = (g : Ring) (namings : Namings) (events : List model.Event) → IsRingOf h g → WorldStands stands g namings w events → P g namings events
+abbrev pub ForEvents : {N : Type 0} → Standing N → (List ℕ → List ℕ) → World N → (Ring → List model.Event → Type 0) → Type 0
+ForEvents stands h w P = (g : Ring) (events : List model.Event) → IsRingOf h g → WorldStands stands g w events → P g events
 
 -- whatever events the world stands for, a fact holds of them where the next one may happen
-abbrev pub ForStep : {N : Type 0} → Standing N → (List ℕ → List ℕ) → World N → Event → (Ring → Namings → List model.Event → Type 0) → Type 0
-ForStep stands h w event P = ForEvents stands h w (λ g namings events. MayHappen g (world g events) (event_of g (world g events) event) → P g namings events)
+abbrev pub ForStep : {N : Type 0} → Standing N → (List ℕ → List ℕ) → World N → Event → (Ring → List model.Event → Type 0) → Type 0
+ForStep stands h w event P = ForEvents stands h w (λ g events. MayHappen g (world g events) (event_of g (world g events) event) → P g events)
 
 -- the nodes are those of the ring, before any letter
-pub record IsStart {N : Type 0} (stands : Standing N) (g : Ring) (namings : Namings) (nodes : List N) (faulty : List Bool) (clients : ℕ) : Type 0 where
+pub record IsStart {N : Type 0} (stands : Standing N) (g : Ring) (nodes : List N) (faulty : List Bool) (clients : ℕ) : Type 0 where
   pub small : IsSmall g
   pub count : length nodes ≡ 3 * g.f + 1
   pub faulty_are : (i : ℕ) (d : Bool) → i < 3 * g.f + 1 → slice_index_or faulty i d ≡ g.is_faulty i
-  pub nodes_stand : (i : ℕ) (d : N) → i < 3 * g.f + 1 → g.is_faulty i ≡ false → stands (slice_index_or nodes i d) g namings i []
+  pub nodes_stand : (i : ℕ) (d : N) → i < 3 * g.f + 1 → g.is_faulty i ≡ false → stands (slice_index_or nodes i d) g i [] 0
   pub clients_are : clients ≡ g.clients

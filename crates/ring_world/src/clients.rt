@@ -1,6 +1,6 @@
 // What clients and faulty members send, and what clients are told.
 ghost use Rattle.std.specs.Prelude.{◌≡◌, ℕ, List, [], ◌∷◌, Some, OnOk};
-ghost use Rattle.cow_tree.specs.Laws.{Keeps};
+ghost use Rattle.block_names.specs.Growth.{Keeps};
 ghost use Rattle.block_names.specs.Held.{Held};
 ghost use Rattle.tree_format.specs.Strings.{label_string};
 ghost use Rattle.guarded_update.specs.Spelling.{request_string};
@@ -38,9 +38,9 @@ impl<N: Node> World<N> {
         ensures skips { skips self.new ≡ skips self.old }
         ensures known { OnOk result (IsKnown N.knows H.naming book.new.held self.new) }
         ensures keeps { Keeps book.old.held book.new.held }
-        ensures ok { OnOk result (ForWorld N.stands H.naming self.old (λ g namings v done.
-            IsWorld N.stands g namings self.new (happens g v (model.Event.Submit (request_string (next_request g v client.0 label update)))) done)) }
-        ensures names { ForWorld N.stands H.naming self.old (λ g namings v done.
+        ensures ok { OnOk result (ForWorld N.stands H.naming self.old (λ g v done.
+            IsWorld N.stands g self.new (happens g v (model.Event.Submit (request_string (next_request g v client.0 label update)))) done)) }
+        ensures names { ForWorld N.stands H.naming self.old (λ g v done.
             Names H.naming (label_string label ∷ request_string (next_request g v client.0 label update) ∷ []) book.old.held book.new.held result) }
     {
         let messages = self.clients[client.0 as usize].submit(book, label, update)?;
@@ -54,8 +54,8 @@ impl<N: Node> World<N> {
         ensures going { self.new.ended ≡ self.old.ended }
         ensures skips { skips self.new ≡ skips self.old }
         ensures known { (h : List ℕ → List ℕ) (held : Held) → IsKnown N.knows h held self.old → IsKnown N.knows h held self.new }
-        ensures ok { OnOk result ((h : List ℕ → List ℕ) → ForWorld N.stands h self.old (λ g namings v done. InOrder g v.submits
-            → IsWorld N.stands g namings self.new (happens g v (model.Event.Resubmit client.0 number)) done)) }
+        ensures ok { OnOk result ((h : List ℕ → List ℕ) → ForWorld N.stands h self.old (λ g v done. InOrder g v.submits
+            → IsWorld N.stands g self.new (happens g v (model.Event.Resubmit client.0 number)) done)) }
     {
         let messages = self.clients[client.0 as usize].resubmit(number)?;
         post(&mut self.mail, Party::Client(client), &messages)?;
@@ -72,8 +72,8 @@ impl<N: Node> World<N> {
         ensures going { self.new.ended ≡ self.old.ended }
         ensures skips { skips self.new ≡ skips self.old }
         ensures known { (h : List ℕ → List ℕ) (held : Held) → IsKnown N.knows h held self.old → IsKnown N.knows h held self.new }
-        ensures ok { OnOk result ((h : List ℕ → List ℕ) → ForWorld N.stands h self.old (λ g namings v done. IsParty g (who from)
-            → IsWorld N.stands g namings self.new (came g v (Some (packet_of (who from) (party.Client to.0) bytes.now))) done)) }
+        ensures ok { OnOk result ((h : List ℕ → List ℕ) → ForWorld N.stands h self.old (λ g v done. IsParty g (who from)
+            → IsWorld N.stands g self.new (came g v (Some (packet_of (who from) (party.Client to.0) bytes.now))) done)) }
     {
         let at = to.0 as usize;
         if at >= self.clients.len() {
@@ -93,8 +93,8 @@ impl<N: Node> World<N> {
         ensures going { self.new.ended ≡ self.old.ended }
         ensures skips { skips self.new ≡ skips self.old }
         ensures known { (h : List ℕ → List ℕ) (held : Held) → IsKnown N.knows h held self.old → IsKnown N.knows h held self.new }
-        ensures ok { OnOk result ((h : List ℕ → List ℕ) → ForWorld N.stands h self.old (λ g namings v done.
-            IsWorld N.stands g namings self.new (happens g v (model.Event.Forge member.0 (who to) (meaning bytes))) done)) }
+        ensures ok { OnOk result ((h : List ℕ → List ℕ) → ForWorld N.stands h self.old (λ g v done.
+            IsWorld N.stands g self.new (happens g v (model.Event.Forge member.0 (who to) (meaning bytes))) done)) }
     {
         self.mail.push(Party::Member(member), to, bytes)?;
         Ok(())

@@ -5,23 +5,24 @@ ghost use Rattle.ring_model.specs.World as model;
 ghost use Rattle.ring_model.specs.World.{world, MayHappen};
 ghost use Rattle.message_model.specs.Meaning.{who};
 ghost use Rattle.client_core.specs.declared.client.Client.{Client};
-ghost use Rattle.ring_node.specs.Naming.{Namings};
 ghost use Rattle.ring_world.specs.Conditions.{MayStep, FitsPlaces};
 ghost use Rattle.ring_world.specs.declared.event.Event.TheVariants.{Submit, Resubmit};
 ghost use Rattle.ring_world.specs.Steps.{IsStep, IsNext, IsClient, IsDeclared, all_asked};
 ghost use Rattle.ring_world.specs.Worlds.{WorldStands, ForEvents, event_of};
 
 use crate::event::Event;
+use crate::members::MOST_MEMBERS;
 use crate::places::fit_places;
 use crate::state::World;
 use guarded_update::{Update, update_fits};
+use pond_base::limits::{MOST_CLIENTS, MOST_SLOTS};
 use pond_base::{ClientId, Label, MemberId, Party};
 use ring_node::Node;
 
 impl<N: Node> World<N> {
     /// What a step asks of the world's own values follows from the events so far. Does nothing.
     pub fn may_step(&self, event: &Event)
-        ensures { (g : Ring) (namings : Namings) (events : List model.Event) → WorldStands N.stands g namings self.now events → MayStep g (world g events) event.now → IsStep self.now event.now }
+        ensures { (g : Ring) (events : List model.Event) → WorldStands N.stands g self.now events → MayStep g (world g events) event.now → IsStep self.now event.now }
     {}
 
     /// Whether the event may come next: its update is within the limits and its client has a number and
@@ -32,8 +33,8 @@ impl<N: Node> World<N> {
         ensures yes { IsTrue result → IsStep self.now event.now }
         ensures next { IsTrue result → IsNext self.now event.now }
         ensures no { result ≡ false → IsNext self.now event.now → ⊥ }
-        ensures comes { IsTrue result → (h : List ℕ → List ℕ) → ForEvents N.stands h self.now (λ g namings events. MayHappen g (world g events) (event_of g (world g events) event.now)) }
-        ensures stays { result ≡ false → (h : List ℕ → List ℕ) → ForEvents N.stands h self.now (λ g namings events.
+        ensures comes { IsTrue result → (h : List ℕ → List ℕ) → ForEvents N.stands h self.now (λ g events. MayHappen g (world g events) (event_of g (world g events) event.now)) }
+        ensures stays { result ≡ false → (h : List ℕ → List ℕ) → ForEvents N.stands h self.now (λ g events.
             MayStep g (world g events) event.now → MayHappen g (world g events) (event_of g (world g events) event.now) → ⊥) }
     {
         self.tests(event)
@@ -91,7 +92,7 @@ impl<N: Node> World<N> {
         ensures some { IfSome result (λ count. IsClient self.now client.0 × ((d : Client) → length (slice_index_or self.now.clients.items client.0 d).requests.items ≡ count)) }
         ensures none { result ≡ None → IsClient self.now client.0 → ⊥ }
     {
-        if client.0 >= 16 {
+        if client.0 >= MOST_CLIENTS {
             return None;
         }
         match self.clients.get(client.0 as usize) {
@@ -105,7 +106,7 @@ impl<N: Node> World<N> {
         ensures yes { IsTrue result → all_asked self.now < 65536 }
         ensures no { result ≡ false → 65536 ≤ all_asked self.now }
     {
-        let mut left: u32 = 65_536;
+        let mut left: u32 = MOST_SLOTS;
         for client in &self.clients {
             let count = client.submitted();
             if count >= left {
@@ -122,8 +123,9 @@ impl<N: Node> World<N> {
         ensures no { result ≡ false → IsDeclared self.now (who party) → ⊥ }
     {
         match party {
-            Party::Member(i) => i.0 < 10 && self.members.nodes.get(i.0 as usize).is_some(),
-            Party::Client(c) => c.0 < 16 && self.clients.get(c.0 as usize).is_some(),
+            Party::Member(i) => i.0 < MOST_MEMBERS
+                && self.members.nodes.get(i.0 as usize).is_some(),
+            Party::Client(c) => c.0 < MOST_CLIENTS && self.clients.get(c.0 as usize).is_some(),
         }
     }
 

@@ -1,11 +1,12 @@
 // What members do with letters.
 ghost use Rattle.std.specs.Prelude.{◌≡◌, List, map, OnOk, IfOk, true, false, slice_index_or, length};
 ghost use Rattle.std.specs.List.{AllByRecursion, list_all};
-ghost use Rattle.cow_tree.specs.Laws.{Keeps};
+ghost use Rattle.block_names.specs.Growth.{Keeps};
 ghost use Rattle.ring_model.specs.Messages.{Member as member};
 ghost use Rattle.message_model.specs.Meaning.{who, letter, packet};
-ghost use Rattle.ring_mail.specs.Seats.{IsSeat};
-ghost use Rattle.ring_world.specs.Crew.{AreMembers, NodesKnown, ForLetter, with_letter, owed_for, named_for};
+ghost use Rattle.ring_model.specs.Seats.{IsSeat};
+ghost use Rattle.ring_world.specs.Crew.{AreMembers, NodesKnown, ForLetter, with_letter, owed_for};
+ghost use Rattle.message_model.specs.Naming.{named_for};
 ghost use Rattle.client_core.specs.Naming.{Names};
 
 use crate::members::Members;
@@ -27,12 +28,12 @@ impl<N: Node> Members<N> {
         bytes: &Bytes,
     ) -> Result<Vec<Out>, NameFault>
         requires { NodesKnown N.knows H.naming book.old.held self.old }
-        ensures members { OnOk result (ForLetter N.stands H.naming self.old from to.0 (λ g namings got. AreMembers N.stands g namings self.new (with_letter got (member to.0) (letter from bytes.now)))) }
-        ensures out { IfOk result (λ out. ForLetter N.stands H.naming self.old from to.0 (λ g namings got. map (packet to.0) out.items ≡ owed_for g to.0 (got (member to.0)) (letter from bytes.now))) }
+        ensures members { OnOk result (ForLetter N.stands H.naming self.old from to.0 (λ g got archived. AreMembers N.stands g self.new (with_letter got (member to.0) (letter from bytes.now)) archived)) }
+        ensures out { IfOk result (λ out. ForLetter N.stands H.naming self.old from to.0 (λ g got archived. map (packet to.0) out.items ≡ owed_for g to.0 (got (member to.0)) (letter from bytes.now))) }
         ensures seats { IfOk result (λ out. AllByRecursion (λ o. IsSeat (who o.to)) out.items) }
         ensures known { OnOk result (NodesKnown N.knows H.naming book.new.held self.new) }
         ensures keeps { Keeps book.old.held book.new.held }
-        ensures names { ForLetter N.stands H.naming self.old from to.0 (λ g namings got. Names H.naming (named_for g namings (member to.0) (got (member to.0)) (letter from bytes.now)) book.old.held book.new.held result) }
+        ensures names { ForLetter N.stands H.naming self.old from to.0 (λ g got archived. Names H.naming (named_for g (member to.0) (got (member to.0)) (letter from bytes.now)) book.old.held book.new.held result) }
     {
         let at = to.0 as usize;
         if at >= self.faulty.len() || self.faulty[at] {

@@ -1,19 +1,22 @@
 // Deliveries.
 ghost use Rattle.std.specs.Prelude.{◌≡◌, ◌+◌, List, ◌++◌, map, min, slice_get, OnOk, IfOk, is_some, Some};
 ghost use Rattle.std.specs.List.{AllByRecursion};
-ghost use Rattle.cow_tree.specs.Laws.{Keeps};
+ghost use Rattle.block_names.specs.Growth.{Keeps};
 ghost use Rattle.ring_model.specs.Messages.{Packet, Member as member};
 ghost use Rattle.ring_model.specs.World.{between, IsParty, came};
 ghost use Rattle.message_model.specs.Meaning.{who};
-ghost use Rattle.ring_mail.specs.Seats.{IsSeat};
-ghost use Rattle.ring_mail.specs.Places.{Place, delivery, place_of, packet_of};
+ghost use Rattle.ring_model.specs.Seats.{IsSeat};
+ghost use Rattle.ring_model.specs.Places.{Place, delivery};
+ghost use Rattle.ring_mail.specs.Places.{place_of, packet_of};
 ghost use Rattle.ring_mail.specs.Mails.{IsMail};
 ghost use Rattle.ring_mail.specs.Skips.{skips as mail_skips};
 ghost use Rattle.client_core.specs.Naming.{Names};
-ghost use Rattle.ring_world.specs.Deliveries.{named_of, packet_from};
+ghost use Rattle.message_model.specs.Naming.{named_of};
+ghost use Rattle.ring_world.specs.Deliveries.{packet_from};
 ghost use Rattle.ring_world.specs.Skipping.{skips};
 ghost use Rattle.ring_world.specs.Worlds.{IsWorld, IsKnown, ForWorld};
 
+use crate::members::MOST_MEMBERS;
 use crate::state::World;
 use block_names::{Book, Hash160, NameFault};
 use bytes::Bytes;
@@ -54,12 +57,12 @@ impl<N: Node> World<N> {
         ensures skips { skips self.new ≡ skips self.old }
         ensures known { OnOk result (IsKnown N.knows H.naming book.new.held self.new) }
         ensures keeps { Keeps book.old.held book.new.held }
-        ensures there { IfOk result (λ there. ForWorld N.stands H.naming self.old (λ g namings v done. IsParty g (who note.from) → IsParty g (who note.to)
+        ensures there { IfOk result (λ there. ForWorld N.stands H.naming self.old (λ g v done. IsParty g (who note.from) → IsParty g (who note.to)
             → there ≡ is_some (slice_get (between (who note.from) (who note.to) v.sent) note.place))) }
-        ensures ok { OnOk result (ForWorld N.stands H.naming self.old (λ g namings v done. IsParty g (who note.from) → IsParty g (who note.to)
-            → IsWorld N.stands g namings self.new (came g v (slice_get (between (who note.from) (who note.to) v.sent) note.place)) (done ++ delivery v.sent (place_of note)))) }
-        ensures names { ForWorld N.stands H.naming self.old (λ g namings v done. IsParty g (who note.from) → IsParty g (who note.to)
-            → Names H.naming (named_of g namings v (slice_get (between (who note.from) (who note.to) v.sent) note.place)) book.old.held book.new.held result) }
+        ensures ok { OnOk result (ForWorld N.stands H.naming self.old (λ g v done. IsParty g (who note.from) → IsParty g (who note.to)
+            → IsWorld N.stands g self.new (came g v (slice_get (between (who note.from) (who note.to) v.sent) note.place)) (done ++ delivery v.sent (place_of note)))) }
+        ensures names { ForWorld N.stands H.naming self.old (λ g v done. IsParty g (who note.from) → IsParty g (who note.to)
+            → Names H.naming (named_of g v (slice_get (between (who note.from) (who note.to) v.sent) note.place)) book.old.held book.new.held result) }
     {
         let found = self.mail.deliver(note.from, note.to, note.place)?;
         match found {
@@ -85,10 +88,10 @@ impl<N: Node> World<N> {
         ensures skips { skips self.new ≡ skips self.old }
         ensures known { OnOk result (IsKnown N.knows H.naming book.new.held self.new) }
         ensures keeps { Keeps book.old.held book.new.held }
-        ensures ok { OnOk result (ForWorld N.stands H.naming self.old (λ g namings v done. IsParty g (who from) → IsParty g (who to)
-            → IsWorld N.stands g namings self.new (came g v (Some (packet_of (who from) (who to) bytes.now))) done)) }
-        ensures names { ForWorld N.stands H.naming self.old (λ g namings v done. IsParty g (who from) → IsParty g (who to)
-            → Names H.naming (named_of g namings v (Some (packet_of (who from) (who to) bytes.now))) book.old.held book.new.held result) }
+        ensures ok { OnOk result (ForWorld N.stands H.naming self.old (λ g v done. IsParty g (who from) → IsParty g (who to)
+            → IsWorld N.stands g self.new (came g v (Some (packet_of (who from) (who to) bytes.now))) done)) }
+        ensures names { ForWorld N.stands H.naming self.old (λ g v done. IsParty g (who from) → IsParty g (who to)
+            → Names H.naming (named_of g v (Some (packet_of (who from) (who to) bytes.now))) book.old.held book.new.held result) }
     {
         match to {
             Party::Member(i) => {
@@ -115,12 +118,12 @@ impl<N: Node> World<N> {
         ensures skips { skips self.new ≡ skips self.old }
         ensures known { OnOk result (IsKnown N.knows H.naming book.new.held self.new) }
         ensures keeps { Keeps book.old.held book.new.held }
-        ensures ok { OnOk result (ForWorld N.stands H.naming self.old (λ g namings v done. IsParty g (who from) → IsParty g (member to.0)
-            → IsWorld N.stands g namings self.new (came g v (Some (packet_of (who from) (member to.0) bytes.now))) done)) }
-        ensures names { ForWorld N.stands H.naming self.old (λ g namings v done. IsParty g (who from) → IsParty g (member to.0)
-            → Names H.naming (named_of g namings v (Some (packet_of (who from) (member to.0) bytes.now))) book.old.held book.new.held result) }
+        ensures ok { OnOk result (ForWorld N.stands H.naming self.old (λ g v done. IsParty g (who from) → IsParty g (member to.0)
+            → IsWorld N.stands g self.new (came g v (Some (packet_of (who from) (member to.0) bytes.now))) done)) }
+        ensures names { ForWorld N.stands H.naming self.old (λ g v done. IsParty g (who from) → IsParty g (member to.0)
+            → Names H.naming (named_of g v (Some (packet_of (who from) (member to.0) bytes.now))) book.old.held book.new.held result) }
     {
-        if to.0 >= 10 {
+        if to.0 >= MOST_MEMBERS {
             return Ok(());
         }
         let out = self.members.take(self.alloc, book, to, from, bytes)?;

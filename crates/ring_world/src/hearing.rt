@@ -5,7 +5,6 @@ ghost use Rattle.ring_model.specs.Messages.{Ring, FewFaulty};
 ghost use Rattle.ring_model.specs.World as model;
 ghost use Rattle.ring_model.specs.World.{world, chosen};
 ghost use Rattle.ring_model.specs.Laws.{NoClash, AllDelivered, VersionsRise};
-ghost use Rattle.ring_node.specs.Naming.{Namings};
 ghost use Rattle.client_core.specs.Clients.{ClientStands};
 ghost use Rattle.ring_world.specs.Beliefs.{HeartsBelong, RepliesBelong, SealsBelong, AreAnswered, AreTold};
 ghost use Rattle.ring_world.specs.Worlds.{WorldStands};
@@ -22,14 +21,14 @@ impl<N: Node> World<N> {
     /// each object. Takes no memory.
     pub fn client(&self, client: ClientId) -> &Client
         requires { client.0 < length self.now.clients.items }
-        ensures stands { (g : Ring) (namings : Namings) (events : List model.Event) → WorldStands N.stands g namings self.now events
+        ensures stands { (g : Ring) (events : List model.Event) → WorldStands N.stands g self.now events
             → ClientStands result.now g client.0 (filter (λ r. g.owner r == client.0) (world g events).submits) ((world g events).got (party.Client client.0)) }
-        ensures hearts { (g : Ring) (namings : Namings) (events : List model.Event) → WorldStands N.stands g namings self.now events → FewFaulty g → NoClash g (world g events).submits → HeartsBelong g events client.0 }
-        ensures replies { (g : Ring) (namings : Namings) (events : List model.Event) → WorldStands N.stands g namings self.now events → FewFaulty g → NoClash g (world g events).submits → RepliesBelong g events client.0 }
-        ensures seals { (g : Ring) (namings : Namings) (events : List model.Event) → WorldStands N.stands g namings self.now events → FewFaulty g → NoClash g (world g events).submits → SealsBelong g events client.0 }
-        ensures answered { (g : Ring) (namings : Namings) (events : List model.Event) → WorldStands N.stands g namings self.now events → FewFaulty g → g.is_faulty 0 ≡ false → AllDelivered g (world g events)
+        ensures hearts { (g : Ring) (events : List model.Event) → WorldStands N.stands g self.now events → FewFaulty g → NoClash g (world g events).submits → HeartsBelong g events client.0 }
+        ensures replies { (g : Ring) (events : List model.Event) → WorldStands N.stands g self.now events → FewFaulty g → NoClash g (world g events).submits → RepliesBelong g events client.0 }
+        ensures seals { (g : Ring) (events : List model.Event) → WorldStands N.stands g self.now events → FewFaulty g → NoClash g (world g events).submits → SealsBelong g events client.0 }
+        ensures answered { (g : Ring) (events : List model.Event) → WorldStands N.stands g self.now events → FewFaulty g → g.is_faulty 0 ≡ false → AllDelivered g (world g events)
             → AreAnswered g events client.0 }
-        ensures told { (g : Ring) (namings : Namings) (events : List model.Event) → WorldStands N.stands g namings self.now events → FewFaulty g → g.is_faulty 0 ≡ false → AllDelivered g (world g events)
+        ensures told { (g : Ring) (events : List model.Event) → WorldStands N.stands g self.now events → FewFaulty g → g.is_faulty 0 ≡ false → AllDelivered g (world g events)
             → VersionsRise g (chosen g (world g events)) → AreTold g events client.0 }
     {
         believed_heart();

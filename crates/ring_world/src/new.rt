@@ -3,7 +3,6 @@ ghost use Rattle.std.specs.Prelude.{◌≡◌, ◌<◌, ◌≤◌, ◌+◌, ◌*
 ghost use Rattle.std.specs.List.{list_all};
 ghost use Rattle.block_names.specs.Held.{Held};
 ghost use Rattle.ring_model.specs.Messages.{Ring};
-ghost use Rattle.ring_node.specs.Naming.{Namings};
 ghost use Rattle.client_core.specs.declared.client.Client.{Client};
 ghost use Rattle.client_core.specs.Clients.{ClientStands};
 ghost use Rattle.ring_world.specs.Skipping.{skips, PassNothing};
@@ -34,7 +33,7 @@ impl<N: Node> World<N> {
         requires count { length nodes.items ≡ 3 * f + 1 }
         requires flags { length nodes.items ≡ length faulty.items }
         requires correct { list_all (λ b. b) faulty.items ≡ false }
-        ensures stands { IfOk result (λ world. (g : Ring) (namings : Namings) → IsStart N.stands g namings nodes.items faulty.items clients → WorldStands N.stands g namings world []) }
+        ensures stands { IfOk result (λ world. (g : Ring) → IsStart N.stands g nodes.items faulty.items clients → WorldStands N.stands g world []) }
         ensures known { IfOk result (λ world. (h : List ℕ → List ℕ) (held : Held) → ((i : ℕ) (d : N) → i < length nodes.items → N.knows h held (slice_index_or nodes.items i d)) → IsKnown N.knows h held world) }
         ensures going { IfOk result (λ world. world.ended ≡ false) }
         ensures skips { IfOk result (λ world. PassNothing (skips world)) }

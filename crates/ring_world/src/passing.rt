@@ -4,10 +4,10 @@ ghost use Rattle.block_names.specs.Held.{Held};
 ghost use Rattle.ring_model.specs.Messages.{Party as Who, Ring, same_party};
 ghost use Rattle.ring_model.specs.World as model;
 ghost use Rattle.message_model.specs.Meaning.{who};
-ghost use Rattle.ring_node.specs.Naming.{Namings};
-ghost use Rattle.ring_mail.specs.Places.{Place};
-ghost use Rattle.ring_mail.specs.Seats.{IsSeat};
-ghost use Rattle.ring_world.specs.Skipping.{skips, stands_at};
+ghost use Rattle.ring_model.specs.Places.{Place};
+ghost use Rattle.ring_model.specs.Seats.{IsSeat};
+ghost use Rattle.ring_world.specs.Skipping.{skips};
+ghost use Rattle.message_model.specs.Told.{stands_at};
 ghost use Rattle.ring_world.specs.Worlds.{WorldStands, IsKnown};
 
 use crate::state::World;
@@ -21,7 +21,7 @@ impl<N: Node> World<N> {
         requires { IsSeat (who from) × IsSeat (who to) × (0 < place) }
         ensures lost { OnOk result ((a : Place) → (skips self.new).lost a ≡ ((skips self.old).lost a || stands_at a (from, to, place))) }
         ensures muted { OnOk result ((skips self.new).muted ≡ (skips self.old).muted) }
-        ensures stands { OnOk result ((g : Ring) (namings : Namings) (events : List model.Event) → WorldStands N.stands g namings self.old events → WorldStands N.stands g namings self.new events) }
+        ensures stands { OnOk result ((g : Ring) (events : List model.Event) → WorldStands N.stands g self.old events → WorldStands N.stands g self.new events) }
         ensures known { (h : List ℕ → List ℕ) (held : Held) → IsKnown N.knows h held self.old → IsKnown N.knows h held self.new }
         ensures going { OnOk result (self.new.ended ≡ self.old.ended) }
         ensures ends { OnErr result (self.new.ended ≡ true) }
@@ -40,7 +40,7 @@ impl<N: Node> World<N> {
         requires { IsSeat (who party) }
         ensures muted { OnOk result ((p : Who) → (skips self.new).muted p ≡ ((skips self.old).muted p || same_party (who party) p)) }
         ensures lost { OnOk result ((skips self.new).lost ≡ (skips self.old).lost) }
-        ensures stands { OnOk result ((g : Ring) (namings : Namings) (events : List model.Event) → WorldStands N.stands g namings self.old events → WorldStands N.stands g namings self.new events) }
+        ensures stands { OnOk result ((g : Ring) (events : List model.Event) → WorldStands N.stands g self.old events → WorldStands N.stands g self.new events) }
         ensures known { (h : List ℕ → List ℕ) (held : Held) → IsKnown N.knows h held self.old → IsKnown N.knows h held self.new }
         ensures going { OnOk result (self.new.ended ≡ self.old.ended) }
         ensures ends { OnErr result (self.new.ended ≡ true) }
@@ -60,7 +60,7 @@ impl<N: Node> World<N> {
         requires { IsSeat (who party) }
         ensures muted { OnOk result ((p : Who) → (skips self.new).muted p ≡ ((skips self.old).muted p && not (same_party (who party) p))) }
         ensures lost { OnOk result ((skips self.new).lost ≡ (skips self.old).lost) }
-        ensures stands { OnOk result ((g : Ring) (namings : Namings) (events : List model.Event) → WorldStands N.stands g namings self.old events → WorldStands N.stands g namings self.new events) }
+        ensures stands { OnOk result ((g : Ring) (events : List model.Event) → WorldStands N.stands g self.old events → WorldStands N.stands g self.new events) }
         ensures known { (h : List ℕ → List ℕ) (held : Held) → IsKnown N.knows h held self.old → IsKnown N.knows h held self.new }
         ensures going { OnOk result (self.new.ended ≡ self.old.ended) }
         ensures ends { OnErr result (self.new.ended ≡ true) }

@@ -15,7 +15,7 @@ use Rattle.fold_model.proofs.Labels.{heart_is_of_label}
 use Rattle.script_terms.specs.declared.script.Script.{Script}
 use Rattle.text_model.specs.Requests.{Numbered, submitted}
 use Rattle.text_model.specs.Blocks.{up_to}
-use Rattle.text_model.specs.Events.{ring_for, is_declared_faulty, no_manifest, events_of, world_of}
+use Rattle.text_model.specs.Events.{ring_for, is_declared_faulty, no_archives, events_of, world_of}
 use Rattle.text_model.specs.Believed.{believed_heart, believed_outcome}
 use Rattle.text_model.specs.Clashes as text
 use Rattle.text_model.specs.Named.{named}
@@ -69,7 +69,7 @@ heart_told : (h : List ℕ → List ℕ) (script : Script) (lines : List Numbere
     → (client : ClientId) (label : List ℕ) → Contains (named h script lines) (label_string label) → (heart : Mark) → believed_heart h script lines client label ≡ Some heart → IsVersion h script lines label heart
 heart_told h script lines few run client label own heart e =
     version_told h script lines label heart
-    (heart_is_of_label script.setup.f script.setup.clients (is_declared_faulty script) h script.setup.block no_manifest few (events_of h script lines) run.legal (asked_clear h script lines run.clear)
+    (heart_is_of_label script.setup.f script.setup.clients (is_declared_faulty script) h script.setup.block no_archives few (events_of h script lines) run.legal (asked_clear h script lines run.clear)
     (Client client.0) label (apart_there h script lines label run own) heart e)
 
 -- ---- outcomes
@@ -79,7 +79,7 @@ outcome_told : (h : List ℕ → List ℕ) (script : Script) (lines : List Numbe
     → (client : ClientId) (number : ℕ) (outcome : List ℕ) → believed_outcome h script lines client number ≡ Some outcome
     → IsAnswered h script.setup.block (chosen (ring_for h script) (world_of h script lines)) client.0 number outcome
 outcome_told h script lines few run client number outcome e =
-    reply_is_outcome script.setup.f script.setup.clients (is_declared_faulty script) h script.setup.block no_manifest few (events_of h script lines) run.legal (asked_clear h script lines run.clear)
+    reply_is_outcome script.setup.f script.setup.clients (is_declared_faulty script) h script.setup.block no_archives few (events_of h script lines) run.legal (asked_clear h script lines run.clear)
     client.0 number outcome e
 
 pub beliefs_hold : BeliefsHold

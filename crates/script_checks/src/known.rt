@@ -8,7 +8,7 @@ ghost use Rattle.script_grammar.specs.Steps.{is_member, is_client, is_faulty, ha
 ghost use Rattle.script_checks.specs.Next.{next, named_after};
 
 use guarded_update::{Place, Setup};
-use pond_base::limits::{MOST_BLOCK, MOST_EVENTS, MOST_SLOTS, MOST_SUBMITS};
+use pond_base::limits::{MOST_BLOCK, MOST_CLIENTS, MOST_EVENTS, MOST_SLOTS, MOST_SUBMITS};
 use pond_base::{ClientId, Items, MemberId, OutOfMemory, Seq};
 use script_terms::{Declaration, Item, Line, LineFault, refused};
 use std::alloc::Global;
@@ -25,7 +25,7 @@ pub struct Known {
     clients: u8,
     homes: Items<(ClientId, MemberId)>,
     // How many submits each client has sent.
-    submits: [u32; 16],
+    submits: [u32; MOST_CLIENTS as usize],
     requests: u32,
     events: u32,
 }
@@ -53,7 +53,7 @@ impl Known {
             block: MOST_BLOCK,
             clients: 1,
             homes: Items::new(alloc),
-            submits: [0; 16],
+            submits: [0; MOST_CLIENTS as usize],
             requests: 0,
             events: 0,
         }

@@ -13,15 +13,15 @@ use Rattle.ring_model.proofs.History.{Each-at}
 use Rattle.ring_model.proofs.Lists.{filter_there, at_in}
 use Rattle.message_model.specs.Reading.{IsRingOf}
 use Rattle.fold_model.proofs.Joined.{ring_is_read}
-use Rattle.ring_mail.specs.Places.{Place}
-use Rattle.ring_world.specs.Deliveries.{pending}
+use Rattle.ring_model.specs.Places.{Place}
+use Rattle.ring_model.specs.Deliveries.{pending}
 use Rattle.script_terms.specs.declared.line.Line.{Line}
 use Rattle.script_terms.specs.declared.line.Line.TheVariants.{Submit, Resubmit, Deliver, Lose, Settle, Mute, Unmute, ForgeOrder, ForgePrepare, ForgeCommit, ForgeHeart, ForgeRaw, Read, ShowMember, ShowClient, ShowVersion, ShowRecent}
 use Rattle.script_terms.specs.declared.script.Script.{Script}
 use Rattle.script_limits.specs.Limits.{submits_in}
 use Rattle.script_limits.proofs.Turns.{submits_are_requests as counts_are}
 use Rattle.text_model.specs.Requests.{Numbered, next_request, submitted, with_line}
-use Rattle.text_model.specs.Events.{events_of, is_declared_faulty, is_passed, most_messages, no_manifest, ring_for, settled_by, with_events, world_of}
+use Rattle.text_model.specs.Events.{events_of, is_declared_faulty, is_passed, most_messages, no_archives, ring_for, settled_by, with_events, world_of}
 use Rattle.script_events.specs.Events.{IsSpelled, SubmitsARequest, is_submit}
 use Rattle.script_events.specs.Laws.{SubmitsAreRequests, CountsJoin, AskedIsThere, OthersSubmitNone, OneRequestALine}
 use Rattle.script_events.proofs.Spelled.{Each-filter, count_spelled, each_spelled, spelled, spelled_more}
@@ -70,7 +70,7 @@ submits_are_requests h script (line ∷ earlier) = line_submits h (ring_for h sc
 
 -- the ring of a script reads requests as the grammar does
 pub ring_read : (h : List ℕ → List ℕ) (script : Script) → IsRingOf h (ring_for h script)
-ring_read h script = ring_is_read script.setup.f script.setup.clients (is_declared_faulty script) h script.setup.block no_manifest
+ring_read h script = ring_is_read script.setup.f script.setup.clients (is_declared_faulty script) h script.setup.block no_archives
 
 pub counts_join : CountsJoin
 counts_join h script lines all client =

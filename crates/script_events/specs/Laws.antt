@@ -15,7 +15,7 @@ use Rattle.pond_world.specs.Setups.{IsSetup, ring_by}
 use Rattle.script_terms.specs.declared.script.Script.{Script}
 use Rattle.script_limits.specs.Limits.{HasSent, LineFits, SetupFits}
 use Rattle.text_model.specs.Requests.{Numbered, count_of, submitted}
-use Rattle.text_model.specs.Events.{no_manifest, ring_for, events_of, world_of}
+use Rattle.text_model.specs.Events.{no_archives, ring_for, events_of, world_of}
 use Rattle.script_events.specs.Events.{IsAsked, IsEventOf, SubmitsARequest, is_submit}
 
 -- lines submit requests that have a spelling
@@ -28,7 +28,7 @@ SetupsJoin = (setup : Setup) → SetupFits setup → IsSetup setup
 
 -- The ring of a script is that of its setup.
 abbrev pub RingsJoin : Type 0
-RingsJoin = (h : List ℕ → List ℕ) (script : Script) → ring_for h script ≡ ring_by h script.setup no_manifest
+RingsJoin = (h : List ℕ → List ℕ) (script : Script) → ring_for h script ≡ ring_by h script.setup no_archives
 
 -- It reads requests as the grammar does, few of its members are faulty, and it is small.
 abbrev pub RingIsSound : Type 0

@@ -1,5 +1,5 @@
 -- The eight steps of a line, each of which gives the cause where it fails first.
-use Rattle.std.specs.Prelude.{ℕ, ◌+◌, ◌*◌, Bool, true, List, [], ◌∷◌, length, nat_le, nat_lt, sum_by, slice_index, ◌==◌, ◌&&◌, ◌||◌, not, if◌then◌else◌, Result, Ok, Err}
+use Rattle.std.specs.Prelude.{◌≡◌, ℕ, ◌+◌, ◌*◌, Bool, true, List, [], ◌∷◌, length, nat_le, nat_lt, sum_by, slice_index, ◌==◌, ◌&&◌, ◌||◌, not, if◌then◌else◌, Result, Ok, Err}
 use Rattle.std.specs.List.{list_all, list_any}
 use Rattle.guarded_update.specs.declared.update.Action.{Action}
 use Rattle.guarded_update.specs.declared.update.Action.TheVariants.{Replace, Append, Truncate, Splice}
@@ -23,7 +23,7 @@ use Rattle.script_terms.specs.declared.verb.Verb.TheVariants as verbs
 use Rattle.script_grammar.specs.Results.{◌>>=◌, or_cause, where_holds}
 use Rattle.script_grammar.specs.Words.{words_of, is_plain, is_comment}
 use Rattle.script_grammar.specs.Forms.{verb_of, said}
-use Rattle.script_grammar.specs.Known.{Known, known}
+use Rattle.script_grammar.specs.Known.{Known, known, rank}
 use Rattle.script_grammar.specs.Load.{sent, is_borne}
 
 -- the rank of the lines of a verb: declarations have 1 to 8, and events have 9
@@ -170,3 +170,9 @@ spoken earlier (word ∷ words) = if is_comment word then Ok [] else (item_of ea
 -- what a line says behind earlier lines: step 1, and then the others
 abbrev pub line_of : List Item → List ℕ → Result (List Item) Cause
 line_of earlier line = if list_all is_plain line then spoken earlier (words_of line) else Err causes.Byte
+
+-- an item that passed the steps before the last
+pub record Fits (earlier : List Item) (item : Item) : Type 0 where
+  pub order : in_order (known earlier).last (rank item) ≡ true
+  pub range : in_range (known earlier) item ≡ true
+  pub size : in_size item ≡ true

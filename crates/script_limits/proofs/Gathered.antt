@@ -5,7 +5,7 @@ use Rattle.std.proofs.lemmas.List.Folds.{list_all-append}
 use Rattle.script_terms.specs.declared.cause.Cause.{Cause}
 use Rattle.script_grammar.specs.Results.{◌>>=◌}
 use Rattle.script_grammar.specs.Update.{gathered}
-use Rattle.script_text.proofs.Steps.{bind_ok}
+use Rattle.script_grammar.proofs.Steps.{bind_ok}
 
 pub and_true : (a b : Bool) → a ≡ true → b ≡ true → (a && b) ≡ true
 and_true true true _ _ = refl

@@ -17,7 +17,7 @@ use Rattle.script_grammar.specs.Results.{◌>>=◌}
 use Rattle.script_grammar.specs.Classes.{number_at, data_at}
 use Rattle.script_grammar.specs.Words.{data_of}
 use Rattle.script_grammar.specs.Update.{Place, AtClause, AtGuard, AfterGuard, AtAction, AfterAction, action_role, guard_role, role, is_end, groups, groups_of, is_or, guard_of, action_of, gathered, clause_of, clauses_of}
-use Rattle.script_text.proofs.Steps.{bind_ok, or_ok}
+use Rattle.script_grammar.proofs.Steps.{bind_ok, or_ok}
 use Rattle.script_limits.proofs.Gathered.{and_true, Gives, SomeGives, all_gathered, some_gathered}
 use Rattle.script_limits.proofs.Contents.{data_long, cond_some}
 

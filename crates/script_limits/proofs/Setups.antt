@@ -10,9 +10,8 @@ use Rattle.script_terms.specs.declared.declaration.Declaration.TheVariants.{Pond
 use Rattle.script_terms.specs.declared.item.Item.{Item}
 use Rattle.script_terms.specs.declared.item.Item.TheVariants.{Declared, Event}
 use Rattle.script_grammar.specs.Known.{known, rank, last_rank, declared_or, ring_in, block_in, clients_in, faulty_in, all_declared}
-use Rattle.script_grammar.specs.Steps.{in_order, in_range}
+use Rattle.script_grammar.specs.Steps.{in_order, in_range, Fits}
 use Rattle.script_grammar.specs.Script.{setup_by}
-use Rattle.script_text.specs.Lines.{Fits}
 use Rattle.script_limits.specs.Limits.{AreDifferent, SetupFits}
 use Rattle.script_limits.proofs.Gathered.{and_first, and_second}
 

@@ -11,7 +11,7 @@ use Rattle.script_terms.specs.declared.verb.Verb.TheVariants as verbs
 use Rattle.script_grammar.specs.Classes.{number_at, party_at, data_at}
 use Rattle.script_grammar.specs.Words.{data_of}
 use Rattle.script_grammar.specs.Forms.{Fixed, Number, PartyWord, Data, Form, forms, made, has_fixed, said, said_by}
-use Rattle.script_text.proofs.Steps.{bind_ok, or_ok, AllForms, by_form, submit_says}
+use Rattle.script_grammar.proofs.Steps.{bind_ok, or_ok, AllForms, by_form, submit_says}
 use Rattle.script_limits.proofs.Contents.{IsContent, data_fits}
 use Rattle.script_limits.proofs.Groups.{ClauseActs, update_acts}
 

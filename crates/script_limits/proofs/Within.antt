@@ -15,12 +15,11 @@ use Rattle.script_terms.specs.declared.script.Script.{Script}
 use Rattle.script_grammar.specs.Results.{◌>>=◌, where_holds}
 use Rattle.script_grammar.specs.Known.{known, rank, last_rank, is_event, is_request}
 use Rattle.script_grammar.specs.Load.{is_borne, sent}
-use Rattle.script_grammar.specs.Steps.{in_order, item_of, counted, spoken, line_of, is_within, has_room}
+use Rattle.script_grammar.specs.Steps.{in_order, item_of, counted, spoken, line_of, is_within, has_room, Fits}
 use Rattle.script_grammar.specs.Words.{is_comment, is_plain, words_of, lines_of}
 use Rattle.script_grammar.specs.Script as script
 use Rattle.script_grammar.specs.Script.{items, line_after, at_line, event_in, script_by, setup_by, script_from, script_of}
-use Rattle.script_text.specs.Lines.{Fits}
-use Rattle.script_text.proofs.Steps.{bind_ok, holds_ok, item_passed}
+use Rattle.script_grammar.proofs.Steps.{bind_ok, holds_ok, item_passed}
 use Rattle.text_model.specs.Requests.{Numbered}
 use Rattle.script_limits.specs.Limits.{LinesFit, IsWithin}
 use Rattle.script_limits.proofs.Gathered.{and_first, and_three}

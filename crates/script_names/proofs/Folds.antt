@@ -4,7 +4,7 @@ use Rattle.std.proofs.lemmas.List.Elements.{Contains-append_left, Contains-appen
 use Rattle.guarded_update.specs.declared.request.Request.{Request}
 use Rattle.tree_format.specs.Strings.{label_string}
 use Rattle.object_model.specs.Folds.{Effect, Makes, Refuses, Repeats, effect, made_by, versions_after}
-use Rattle.object_fold.specs.Executed.{strings_of_effect, strings_named, outcome_after}
+use Rattle.object_model.specs.Outcomes.{strings_of_effect, strings_named, outcome_after}
 use Rattle.ring_message.specs.declared.outcome.Outcome.{Outcome}
 use Rattle.ring_message.specs.declared.outcome.Outcome.TheVariants as told
 use Rattle.ring_model.specs.Messages.{Ring}
@@ -68,14 +68,14 @@ IsSubmittedLabel w s = (text : List ℕ) × Contains w.submits text × (label_st
 abbrev pub IsAccounted : (List ℕ → List ℕ) → ℕ → Ring → World → List ℕ → Type 0
 IsAccounted h block g w s = Contains w.submits s ⊎ (Contains (executed_strings h block (requests_of (chosen g w))) s ⊎ IsSubmittedLabel w s)
 
-head_accounted : (h : List ℕ → List ℕ) (block : ℕ) (g : Ring) (w : World) (s : List ℕ) → IsOfHead g (namings_by h block) w s → Contains (executed_strings h block (requests_of (chosen g w))) s ⊎ IsSubmittedLabel w s
-head_accounted h block g w s head =
+head_accounted : (h : List ℕ → List ℕ) (block : ℕ) (g : Ring) (w : World) (s : List ℕ) → ((strings : List (List ℕ)) → g.namings strings ≡ namings_by h block strings) → IsOfHead g w s → Contains (executed_strings h block (requests_of (chosen g w))) s ⊎ IsSubmittedLabel w s
+head_accounted h block g w s same head =
     ⊎_elim
     (λ made. inl (executed_head h block head.0 (chosen g w) head.1 s made))
     (λ label.
     let text = in_map request_at head.0 label.0 (in_reverse (map request_at head.0) label.0 label.1) in
     inr (text.0, Each-there (Contains w.submits) head.0 text.0 head.2 text.1, subst (λ (request : Request). label_string request.label ≡ s) (sym text.2) label.2))
-    (named_parts h block (requests_of head.0) s head.3)
+    (named_parts h block (requests_of head.0) s (subst (λ named. Contains named s) (same head.0) head.3))
 
-pub accounted : (h : List ℕ → List ℕ) (block : ℕ) (g : Ring) (w : World) (s : List ℕ) → IsForeseen g (namings_by h block) w s → IsAccounted h block g w s
-accounted h block g w s foreseen = ⊎_elim (λ submitted. inl submitted) (λ head. inr (head_accounted h block g w s head)) foreseen
+pub accounted : (h : List ℕ → List ℕ) (block : ℕ) (g : Ring) (w : World) (s : List ℕ) → ((strings : List (List ℕ)) → g.namings strings ≡ namings_by h block strings) → IsForeseen g w s → IsAccounted h block g w s
+accounted h block g w s same foreseen = ⊎_elim (λ submitted. inl submitted) (λ head. inr (head_accounted h block g w s same head)) foreseen

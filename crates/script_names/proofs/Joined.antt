@@ -11,11 +11,12 @@ use Rattle.ring_model.specs.Laws.{NoClash}
 use Rattle.ring_model.proofs.Chosen.{agrees}
 use Rattle.ring_model.proofs.Lists.{there_none}
 use Rattle.message_model.specs.Meaning.{who}
-use Rattle.fold_model.specs.Folds.{requests_of, namings_by}
-use Rattle.ring_mail.specs.Places.{Place}
+use Rattle.fold_model.specs.Folds.{requests_of}
+use Rattle.ring_model.specs.Places.{Place}
 use Rattle.ring_world.specs.declared.event.Event.TheVariants as happening
-use Rattle.ring_world.specs.Deliveries.{settled, named_along, named_of}
-use Rattle.ring_world.specs.Skipping.{touches}
+use Rattle.ring_model.specs.Deliveries.{settled}
+use Rattle.message_model.specs.Naming.{named_along, named_of}
+use Rattle.message_model.specs.Told.{touches}
 use Rattle.ring_world.specs.Worlds.{strings_of}
 use Rattle.ring_world.proofs.Order.{came_submits}
 use Rattle.ring_world.proofs.Stepping.{nothing_there, place_less}
@@ -29,7 +30,7 @@ use Rattle.text_model.specs.Events.{ring_for, muted, lost, is_passed, settled_by
 use Rattle.text_model.specs.Named.{executed_strings, named}
 use Rattle.script_names.specs.Laws.{SettledIsReached, SettledJoins, SkipsJoin, muted_in, lost_in, AreOfLines, DeliveriesAreNamed, SettlesAreNamed, ExecutedAreNamed}
 use Rattle.script_names.proofs.Settled.{reached, joins, settle_legal, settle_submits}
-use Rattle.script_names.proofs.Deliveries.{IsForeseen, all_foreseen}
+use Rattle.script_names.proofs.Deliveries.{IsForeseen, all_foreseen, settled_delivers}
 use Rattle.script_names.proofs.Folds.{IsSubmittedLabel, executed_head, accounted}
 use Rattle.script_names.proofs.Lines.{submit_named, submitted_label_named}
 
@@ -73,7 +74,7 @@ few_faulty h script fits = omega (arith, few_among script.setup.faulty (3 * scri
 
 -- what deliveries after some lines name is named by these, or of a version that the committed list makes then
 foreseen_named : (h : List ℕ → List ℕ) (script : Script) (earlier : List Numbered) (w : World) → AreOfLines h script earlier → w.submits ≡ (world_of h script earlier).submits
-    → (s : List ℕ) → IsForeseen (ring_for h script) (namings_by h script.setup.block) w s
+    → (s : List ℕ) → IsForeseen (ring_for h script) w s
     → Contains (named h script earlier ++ executed_strings h script.setup.block (requests_of (chosen (ring_for h script) w))) s
 foreseen_named h script earlier w are same s foreseen =
     let made = executed_strings h script.setup.block (requests_of (chosen (ring_for h script) w)) in
@@ -85,23 +86,23 @@ foreseen_named h script earlier w are same s foreseen =
     Contains-append_left (named h script earlier) made s
     (submitted_label_named h script earlier are s (label.0, subst (λ texts. Contains texts label.0) same label.1, label.2)))
     others)
-    (accounted h script.setup.block (ring_for h script) w s foreseen)
+    (accounted h script.setup.block (ring_for h script) w s (λ strings. refl) foreseen)
 
 -- what a delivery after some lines names
 delivery_named : (h : List ℕ → List ℕ) (script : Script) (earlier : List Numbered) (number : ℕ) (sender to : Party) (place : ℕ) (s : List ℕ) → SetupFits script.setup → AreOfLines h script earlier
     → IsLegal (ring_for h script) (events_of h script ((number, Deliver sender to place) ∷ earlier)) → NoClash (ring_for h script) (world_of h script ((number, Deliver sender to place) ∷ earlier)).submits
-    → Contains (strings_of (ring_for h script) (namings_by h script.setup.block) (world_of h script earlier) (happening.Deliver sender to place)) s
+    → Contains (strings_of (ring_for h script) (world_of h script earlier) (happening.Deliver sender to place)) s
     → Contains (named h script ((number, Deliver sender to place) ∷ earlier)) s
 delivery_named h script earlier number sender to zero s fits are legal clear there =
-    absurd (there_none s (subst (λ o. Contains (named_of (ring_for h script) (namings_by h script.setup.block) (world_of h script earlier) o) s) (nothing_there (world_of h script earlier).sent (who sender) (who to) 0 refl) there))
+    absurd (there_none s (subst (λ o. Contains (named_of (ring_for h script) (world_of h script earlier) o) s) (nothing_there (world_of h script earlier).sent (who sender) (who to) 0 refl) there))
 delivery_named h script earlier number sender to (suc place) s fits are legal clear there =
     let g = ring_for h script in
     let events = events_of h script earlier in
     let event = model.Deliver (who sender) (who to) (suc place - 1) in
-    let here = subst (λ k. Contains (named_of g (namings_by h script.setup.block) (world g events) (slice_get (between (who sender) (who to) (world g events).sent) k)) s)
+    let here = subst (λ k. Contains (named_of g (world g events) (slice_get (between (who sender) (who to) (world g events).sent) k)) s)
     (place_less (world g events).sent (suc place) (λ none. absurd (omega (arith, none)))) there in
     foreseen_named h script earlier (world g (event ∷ events)) are (came_submits g (world g events) (slice_get (between (who sender) (who to) (world g events).sent) (suc place - 1))) s
-    (all_foreseen g (namings_by h script.setup.block) (few_faulty h script fits) (event ∷ events) [] (event ∷ []) events refl legal clear s here)
+    (all_foreseen g (few_faulty h script fits) (event ∷ events) [] (event ∷ []) events (tt, tt) refl legal clear s here)
 
 pub deliveries_are_named : DeliveriesAreNamed
 deliveries_are_named h script earlier line sender to place string is fits are legal clear there =
@@ -112,7 +113,7 @@ deliveries_are_named h script earlier line sender to place string is fits are le
 -- what a settle of at most so many deliveries names after some lines
 settle_named : (h : List ℕ → List ℕ) (script : Script) (earlier : List Numbered) (passed : Place → Bool) (n most : ℕ) (s : List ℕ) → n ≤ most → SetupFits script.setup → AreOfLines h script earlier
     → IsLegal (ring_for h script) (events_of h script earlier) → NoClash (ring_for h script) (world_of h script earlier).submits
-    → Contains (named_along (ring_for h script) (namings_by h script.setup.block) (events_of h script earlier) (settled (ring_for h script) passed (events_of h script earlier) n)) s
+    → Contains (named_along (ring_for h script) (events_of h script earlier) (settled (ring_for h script) passed (events_of h script earlier) n)) s
     → Contains (named h script earlier ++ executed_strings h script.setup.block (requests_of (chosen (ring_for h script) (world (ring_for h script) (settled_by (ring_for h script) passed most (events_of h script earlier)))))) s
 settle_named h script earlier passed n most s low fits are legal clear there =
     let g = ring_for h script in
@@ -121,7 +122,7 @@ settle_named h script earlier passed n most s low fits are legal clear there =
     let same = settle_submits g passed most events in
     let reach = reached g passed events n most low in
     foreseen_named h script earlier (world g all) are same s
-    (all_foreseen g (namings_by h script.setup.block) (few_faulty h script fits) all reach.0 (settled g passed events n) events (sym reach.1) (settle_legal g passed most events legal)
+    (all_foreseen g (few_faulty h script fits) all reach.0 (settled g passed events n) events (settled_delivers g passed events n) (sym reach.1) (settle_legal g passed most events legal)
     (subst (NoClash g) (sym same) clear) s there)
 
 pub settles_are_named : SettlesAreNamed

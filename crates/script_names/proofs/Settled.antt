@@ -4,8 +4,8 @@ use Rattle.ring_model.specs.Messages.{Ring}
 use Rattle.ring_model.specs.World.{Event, Deliver, between, world, IsParty, IsLegal}
 use Rattle.ring_model.proofs.Owed.{found_there}
 use Rattle.ring_model.proofs.Lists.{at_there}
-use Rattle.ring_mail.specs.Places.{Place, places, is_due}
-use Rattle.ring_world.specs.Deliveries.{deliveries, pending, then_deliver, settled}
+use Rattle.ring_model.specs.Places.{Place, places, is_due}
+use Rattle.ring_model.specs.Deliveries.{deliveries, pending, then_deliver, settled}
 use Rattle.ring_world.proofs.Order.{came_submits}
 use Rattle.ring_world.proofs.Settling.{place_declared}
 use Rattle.text_model.specs.Events.{settled_by}

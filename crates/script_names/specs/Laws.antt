@@ -9,12 +9,13 @@ use Rattle.ring_model.specs.Member.{executed}
 use Rattle.ring_model.specs.World.{Event, world, IsLegal, chosen}
 use Rattle.ring_model.specs.Laws.{NoClash, IsCorrect}
 use Rattle.message_model.specs.Meaning.{who}
-use Rattle.fold_model.specs.Folds.{requests_of, namings_by}
-use Rattle.ring_mail.specs.Places.{Place}
+use Rattle.fold_model.specs.Folds.{requests_of}
+use Rattle.ring_model.specs.Places.{Place}
 use Rattle.ring_world.specs.declared.event.Event.TheVariants as happening
 use Rattle.ring_mail.specs.Skips.{Skips, is_skipped}
-use Rattle.ring_world.specs.Skipping.{Told, stands_at}
-use Rattle.ring_world.specs.Deliveries.{pending, settled, named_along}
+use Rattle.message_model.specs.Told.{Told, stands_at}
+use Rattle.ring_model.specs.Deliveries.{pending, settled}
+use Rattle.message_model.specs.Naming.{named_along}
 use Rattle.ring_world.specs.Worlds.{strings_of}
 use Rattle.script_terms.specs.declared.line.Line.TheVariants.{Deliver, Settle}
 use Rattle.script_terms.specs.declared.script.Script.{Script}
@@ -60,7 +61,7 @@ abbrev pub DeliveriesAreNamed : Type 0
 DeliveriesAreNamed = (h : List ℕ → List ℕ) (script : Script) (earlier : List Numbered) (line : Numbered) (sender to : Party) (place : ℕ) (string : List ℕ)
     → line.1 ≡ Deliver sender to place → SetupFits script.setup → AreOfLines h script earlier
     → IsLegal (ring_for h script) (events_of h script (line ∷ earlier)) → NoClash (ring_for h script) (world_of h script (line ∷ earlier)).submits
-    → Contains (strings_of (ring_for h script) (namings_by h script.setup.block) (world_of h script earlier) (happening.Deliver sender to place)) string
+    → Contains (strings_of (ring_for h script) (world_of h script earlier) (happening.Deliver sender to place)) string
     → Contains (named h script (line ∷ earlier)) string
 
 -- What the first n deliveries of a settle name is named by the lines up to the settle.
@@ -68,7 +69,7 @@ abbrev pub SettlesAreNamed : Type 0
 SettlesAreNamed = (h : List ℕ → List ℕ) (script : Script) (earlier : List Numbered) (line : Numbered) (n : ℕ) (string : List ℕ)
     → line.1 ≡ Settle → n ≤ most_messages → SetupFits script.setup → AreOfLines h script earlier
     → IsLegal (ring_for h script) (events_of h script earlier) → NoClash (ring_for h script) (world_of h script earlier).submits
-    → Contains (named_along (ring_for h script) (namings_by h script.setup.block) (events_of h script earlier) (settled (ring_for h script) (is_passed earlier) (events_of h script earlier) n)) string
+    → Contains (named_along (ring_for h script) (events_of h script earlier) (settled (ring_for h script) (is_passed earlier) (events_of h script earlier) n)) string
     → Contains (named h script (line ∷ earlier)) string
 
 -- The strings of the versions that a correct member made are strings of versions that the committed list makes.

@@ -9,7 +9,7 @@ use Rattle.guarded_update.specs.declared.request.Request.{Request}
 use Rattle.guarded_update.specs.Fitting.{IsRequest}
 use Rattle.guarded_update.specs.Spelling.{request_string}
 use Rattle.object_model.specs.Folds.{Effect, versions_after}
-use Rattle.object_fold.specs.Executed.{outcome_after, outcome_of, effect_after}
+use Rattle.object_model.specs.Outcomes.{outcome_after, outcome_of, effect_after}
 use Rattle.ring_message.specs.declared.outcome.Outcome.{Outcome}
 use Rattle.message_model.specs.Requests.{request_at}
 use Rattle.ring_model.proofs.History.{same_some}

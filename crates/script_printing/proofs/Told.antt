@@ -5,8 +5,8 @@ use Rattle.std.specs.List.{flat_map}
 use Rattle.std.proofs.lemmas.List.{length-map}
 use Rattle.std.proofs.lemmas.Grind.{flat_map-append}
 use Rattle.ring_model.specs.Messages.{Party}
-use Rattle.ring_mail.specs.Places.{Place}
-use Rattle.ring_world.specs.Skipping.{Told, told, counted}
+use Rattle.ring_model.specs.Places.{Place}
+use Rattle.message_model.specs.Told.{Told, told, counted}
 use Rattle.text_model.specs.Blocks as model
 use Rattle.script_printing.specs.Deliveries.{told_line}
 

@@ -2,7 +2,7 @@
 use Rattle.std.specs.Prelude.{ℕ, List, ◌++◌, codes}
 use Rattle.std.specs.Fmt.{decimal}
 use Rattle.message_model.specs.Meaning.{who}
-use Rattle.ring_world.specs.Skipping.{Told}
+use Rattle.message_model.specs.Told.{Told}
 use Rattle.text_model.specs.Blocks.{party_text, line_feed}
 
 -- the line of a delivery, whose place a world counts from 1

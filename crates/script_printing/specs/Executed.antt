@@ -3,7 +3,6 @@ use Rattle.std.specs.Prelude.{◌<◌, ◌^◌, ℕ, List, Contains}
 use Rattle.ring_message.specs.Grammar.{IsRequestString}
 use Rattle.ring_model.specs.Messages.{Ring, Letter}
 use Rattle.ring_model.specs.Member.{executed}
-use Rattle.ring_node.specs.Naming.{Namings}
 use Rattle.message_model.specs.Requests.{request_at}
 use Rattle.fold_model.specs.Folds.{requests_of}
 use Rattle.fold_model.specs.Rings.{FoldsAs}
@@ -18,7 +17,7 @@ AreRequestStrings strings = (string : List ℕ) → Contains strings string → 
 -- whatever requests a node has executed, and whatever number of bytes a whole leaf has where they are folded, a fact holds of them
 abbrev pub ForExecuted : Node → ((List ℕ → List ℕ) → ℕ → List (List ℕ) → Type 0) → Type 0
 ForExecuted node P =
-    (g : Ring) (namings : Namings) (i : ℕ) (got : List Letter) → NodeStands node g namings i got → (block : ℕ) → block < 2 ^ 32 → FoldsAs g.h block g namings
+    (g : Ring) (i : ℕ) (got : List Letter) (archived : ℕ) → NodeStands node g i got archived → (block : ℕ) → block < 2 ^ 32 → FoldsAs g.h block g
     → AreRequestStrings (executed g got) → P g.h block (executed g got)
 
 -- the line of one request more

@@ -1,8 +1,8 @@
 // What the last deliveries print.
 ghost use Rattle.std.specs.Prelude.{◌≡◌, List, map, string_bytes, IfOk};
 ghost use Rattle.message_model.specs.Meaning.{who};
-ghost use Rattle.ring_mail.specs.Places.{Place};
-ghost use Rattle.ring_world.specs.Skipping.{told, counted};
+ghost use Rattle.ring_model.specs.Places.{Place};
+ghost use Rattle.message_model.specs.Told.{told, counted};
 ghost use Rattle.text_model.specs.Blocks as model;
 ghost use Rattle.script_printing.specs.Deliveries.{told_line};
 

@@ -4,7 +4,7 @@ ghost use Rattle.guarded_update.specs.declared.request.Request.{Request as Asked
 ghost use Rattle.guarded_update.specs.Fitting.{IsRequest};
 ghost use Rattle.guarded_update.specs.Spelling.{request_string};
 ghost use Rattle.object_model.specs.Folds.{Effect};
-ghost use Rattle.object_fold.specs.Executed.{outcome_of};
+ghost use Rattle.object_model.specs.Outcomes.{outcome_of};
 ghost use Rattle.fold_model.specs.Folds.{requests_of};
 ghost use Rattle.text_model.specs.Blocks as model;
 ghost use Rattle.script_printing.specs.Executed.{ForExecuted, line_after};

@@ -1,7 +1,7 @@
 // What became of requests, in words.
 ghost use Rattle.std.specs.Prelude.{◌≡◌, ℕ, List, length, string_bytes, IfOk};
 ghost use Rattle.object_model.specs.Folds.{Effect};
-ghost use Rattle.object_fold.specs.Executed.{outcome_of};
+ghost use Rattle.object_model.specs.Outcomes.{outcome_of};
 ghost use Rattle.ring_message.specs.Spelling.{outcome_string};
 ghost use Rattle.message_model.specs.Meaning.{outcome_at};
 ghost use Rattle.text_model.specs.Blocks as model;

@@ -25,7 +25,6 @@ use Rattle.ring_message.specs.declared.message.Message.TheVariants as message
 use Rattle.ring_model.specs.Messages as model
 use Rattle.ring_model.specs.Messages.{Ring}
 use Rattle.ring_model.specs.World.{Event, world}
-use Rattle.ring_node.specs.Naming.{Namings}
 use Rattle.ring_world.specs.declared.event.Event.TheVariants as event
 use Rattle.ring_mail.specs.Skips.{Skips}
 use Rattle.ring_world.specs.Worlds.{WorldStands}
@@ -45,7 +44,7 @@ use Rattle.script_terms.specs.declared.script.Script.{Script}
 use Rattle.text_model.specs.Events.{ring_for, world_of, events_of, asked_string}
 use Rattle.text_model.specs.Named.{named, line_strings}
 use Rattle.text_model.specs.Requests.{Numbered, submitted}
-use Rattle.script_run.specs.States.{StandsFor, IsTurn, IsComing, IsForgery, Forges, lines_before, namings_for}
+use Rattle.script_run.specs.States.{StandsFor, IsTurn, IsComing, IsForgery, Forges, lines_before}
 use Rattle.script_run.proofs.Turns.{lines_more, turn_fits}
 use Rattle.script_run.proofs.Widening.{clash_among}
 
@@ -71,20 +70,20 @@ asked_spelled there h script lines site skips client number stands sent =
 -- what a world answers for it
 pub answered : AskedIsThere → (h : List ℕ → List ℕ) (script : Script) (lines : List Numbered) (site : SiteView) (skips : Skips) (client : ClientId) (number : ℕ) (w : World Node) (found : Option (List ℕ)) → StandsFor h script lines site skips
     → HasSent script.setup lines client number → w ≡ site.world
-    → ((g : Ring) (namings : Namings) (events : List Event) → WorldStands NodeStands g namings w events → client.0 < g.clients → 0 < number
+    → ((g : Ring) (events : List Event) → WorldStands NodeStands g w events → client.0 < g.clients → 0 < number
     → found ≡ slice_get (filter (λ r. g.owner r == client.0) (world g events).submits) (number - 1))
     → found ≡ Some (string_at h script lines client number)
 answered there h script lines site skips client number w found stands sent same tells =
     let string = there h script lines client number sent stands.requests in
-    let stood = subst (λ v. WorldStands NodeStands (ring_for h script) (namings_for h script) v (events_of h script lines)) (sym same) stands.stands in
-    tells (ring_for h script) (namings_for h script) (events_of h script lines) stood sent.0 sent.1 ∙ string.1.at ∙ ap Some (sym string.1.asked)
+    let stood = subst (λ v. WorldStands NodeStands (ring_for h script) v (events_of h script lines)) (sym same) stands.stands in
+    tells (ring_for h script) (events_of h script lines) stood sent.0 sent.1 ∙ string.1.at ∙ ap Some (sym string.1.asked)
 
 -- a string that is named once more changes nothing
 pub named_again : (h : List ℕ → List ℕ) (script : Script) (lines : List Numbered) (site now : SiteView) (skips : Skips) (text : List ℕ) → StandsFor h script lines site skips → Contains (named h script lines) text
     → now.world ≡ site.world → now.held ≡ map.insert site.held (h text) text → StandsFor h script lines now skips
 named_again h script lines site now skips text stands there same held = record {
   holds = subst (λ book. HoldsJust h book (named h script lines)) (sym (held ∙ held_same h site.held text (stands.holds.all text there))) stands.holds;
-  stands = subst (λ world. WorldStands NodeStands (ring_for h script) (namings_for h script) world (events_of h script lines)) (sym same) stands.stands;
+  stands = subst (λ world. WorldStands NodeStands (ring_for h script) world (events_of h script lines)) (sym same) stands.stands;
   muted_are = stands.muted_are;
   lost_are = stands.lost_are;
   requests = stands.requests;

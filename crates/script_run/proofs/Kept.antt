@@ -14,7 +14,7 @@ use Rattle.object_model.specs.Trees.{version_strings}
 use Rattle.object_fold.specs.Executed.{AreAfter, AreKnown}
 use Rattle.object_fold.specs.Shelves.{trees_in, trees_of, tree_of}
 use Rattle.object_fold.specs.Views.{ObjectsView}
-use Rattle.object_fold.proofs.ExecutedLemmas.{one_more}
+use Rattle.object_model.proofs.VersionLemmas.{one_more}
 use Rattle.fold_model.specs.Folds.{requests_of}
 use Rattle.fold_model.specs.Rings.{FoldsAs}
 use Rattle.fold_model.specs.Laws.{OneBlock}
@@ -33,7 +33,6 @@ use Rattle.script_requests.proofs.Holds.{contains_none}
 use Rattle.text_model.specs.Events.{ring_for, events_of, world_of}
 use Rattle.text_model.specs.Named.{effect_strings, made_strings, executed_strings, committed_strings}
 use Rattle.text_model.specs.Requests.{Numbered}
-use Rattle.script_run.specs.States.{namings_for}
 
 -- a book holds the strings of all trees of these versions
 abbrev AreTreesIn : (List ℕ → List ℕ) → Held → ℕ → List Request → Type 0
@@ -93,16 +92,12 @@ objects_held h held block requests objects after known =
     (λ label tree c. All-contains (IsTreeIn h held) (trees_in objects.trees label) tree (known.known label) (subst (λ ts. Contains ts tree) (sym (after.trees label)) c))
 
 -- what the committed list makes, where a correct member has executed it
-pub committed_held : (h : List ℕ → List ℕ) (script : Script) (site : SiteView) (lines : List Numbered) (i : ℕ) (d : Node) → OneBlock → script.setup.block < 2 ^ 32 → FoldsAs h script.setup.block (ring_for h script) (namings_for h script)
-    → IsKnown node.IsKnown h site.held site.world → WorldStands NodeStands (ring_for h script) (namings_for h script) site.world (events_of h script lines) → IsCorrect (ring_for h script) i
-    → executed (ring_for h script) ((world_of h script lines).got (Member i)) ≡ chosen (ring_for h script) (world_of h script lines) → HoldsAll h site.held (committed_strings h script lines)
-committed_held h script site lines i d one low folds known stands correct is =
+pub committed_held : (h : List ℕ → List ℕ) (script : Script) (held : Held) (lines : List Numbered) (i archived : ℕ) (one_node : Node) → OneBlock → script.setup.block < 2 ^ 32 → FoldsAs h script.setup.block (ring_for h script)
+    → node.IsKnown h held one_node → NodeStands one_node (ring_for h script) i ((world_of h script lines).got (Member i)) archived
+    → executed (ring_for h script) ((world_of h script lines).got (Member i)) ≡ chosen (ring_for h script) (world_of h script lines) → HoldsAll h held (committed_strings h script lines)
+committed_held h script held lines i archived one_node one low folds knows stood is =
     let g = ring_for h script in
-    let members = stands.is.members_are in
-    let one_node : Node = get_or site.world.members.nodes.items i d in
-    let stood : NodeStands one_node g (namings_for h script) i ((world_of h script lines).got (Member i)) = members.nodes_stand i d correct.0 correct.1 in
-    let knows : node.IsKnown h site.held one_node = known.nodes i d (omega (arith, members.count, correct.0)) in
-    let same : one_node.block ≡ script.setup.block = one h g (namings_for h script) one_node.block script.setup.block (omega (arith, one_node.short_block)) low stood.folds folds in
-    let after : AreAfter h one_node.block (requests_of (executed g ((world_of h script lines).got (Member i)))) one_node.objects = stood.done_is.after in
-    objects_held h site.held script.setup.block (requests_of (chosen g (world_of h script lines))) one_node.objects
+    let same : one_node.block ≡ script.setup.block = one h g one_node.block script.setup.block (omega (arith, one_node.short_block)) low stood.done.folds folds in
+    let after : AreAfter h one_node.block (requests_of (executed g ((world_of h script lines).got (Member i)))) one_node.objects = stood.done.done_is.after in
+    objects_held h held script.setup.block (requests_of (chosen g (world_of h script lines))) one_node.objects
     (subst (λ strings. AreAfter h script.setup.block (requests_of strings) one_node.objects) is (subst (λ b. AreAfter h b (requests_of (executed g ((world_of h script lines).got (Member i)))) one_node.objects) same after)) knows.objects_known

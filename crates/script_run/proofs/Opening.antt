@@ -28,7 +28,7 @@ use Rattle.script_requests.proofs.Holds.{contains_first, all_named}
 use Rattle.script_terms.specs.declared.script.Script.{Script}
 use Rattle.text_model.specs.Events.{ring_for}
 use Rattle.text_model.specs.Named.{label_strings}
-use Rattle.script_run.specs.States.{StandsFor, namings_for}
+use Rattle.script_run.specs.States.{StandsFor}
 use Rattle.script_run.proofs.Widening.{holds_wider, clash_among}
 
 -- ---- a string more
@@ -56,29 +56,25 @@ ok_by_both (Err y) P Q R from p q = p
 -- ---- the empty version
 
 -- its strings are held before the first line, since each correct member has made them
-pub empty_held : (h : List ℕ → List ℕ) (script : Script) (site : SiteView) (i : ℕ) (d : Node) → OneBlock → script.setup.block < 2 ^ 32 → FoldsAs h script.setup.block (ring_for h script) (namings_for h script)
-    → IsKnown node.IsKnown h site.held site.world → WorldStands NodeStands (ring_for h script) (namings_for h script) site.world [] → IsCorrect (ring_for h script) i → HoldsAll h site.held (version_strings h script.setup.block [] [])
-empty_held h script site i d one low folds known stands correct s c =
+pub empty_held : (h : List ℕ → List ℕ) (script : Script) (held : Held) (i archived : ℕ) (one_node : Node) → OneBlock → script.setup.block < 2 ^ 32 → FoldsAs h script.setup.block (ring_for h script)
+    → node.IsKnown h held one_node → NodeStands one_node (ring_for h script) i [] archived → HoldsAll h held (version_strings h script.setup.block [] [])
+empty_held h script held i archived one_node one low folds knows stood s c =
     let g = ring_for h script in
     let block = script.setup.block in
-    let members = stands.is.members_are in
-    let one_node : Node = get_or site.world.members.nodes.items i d in
-    let stood : NodeStands one_node g (namings_for h script) i [] = members.nodes_stand i d correct.0 correct.1 in
-    let knows : node.IsKnown h site.held one_node = known.nodes i d (omega (arith, members.count, correct.0)) in
-    let same : one_node.block ≡ block = one h g (namings_for h script) one_node.block block (omega (arith, one_node.short_block)) low stood.folds folds in
-    let after : AreAfter h one_node.block (requests_of (executed g [])) one_node.objects = stood.done_is.after in
+    let same : one_node.block ≡ block = one h g one_node.block block (omega (arith, one_node.short_block)) low stood.done.folds folds in
+    let after : AreAfter h one_node.block (requests_of (executed g [])) one_node.objects = stood.done.done_is.after in
     let none : executed g [] ≡ [] = run_none (committed g []) g.slots 1 refl in
     let first : AreAfter h block [] one_node.objects =
     subst (λ strings. AreAfter h block (requests_of strings) one_node.objects) none (subst (λ b. AreAfter h b (requests_of (executed g [])) one_node.objects) same after) in
-    All-contains (Holds h site.held) (version_strings h block [] []) s (first_held h site.held block one_node.objects first knows.objects_known) c
+    All-contains (Holds h held) (version_strings h block [] []) s (first_held h held block one_node.objects first knows.objects_known) c
 
 -- the state before the first line
-pub stands_first : (h : List ℕ → List ℕ) (script : Script) (first now : SiteView) (skips : Skips) → WorldStands NodeStands (ring_for h script) (namings_for h script) first.world []
+pub stands_first : (h : List ℕ → List ℕ) (script : Script) (first now : SiteView) (skips : Skips) → WorldStands NodeStands (ring_for h script) first.world []
     → HoldsJust h first.held (version_strings h script.setup.block [] []) → now.world ≡ first.world
     → ((strings : List (List ℕ)) → HoldsJust h first.held strings → HoldsJust h now.held (strings ++ flat_map label_strings script.lines)) → PassNothing skips → StandsFor h script [] now skips
 stands_first h script first now skips stands just same labels nothing = record {
   holds = labels (version_strings h script.setup.block [] []) just;
-  stands = subst (λ world. WorldStands NodeStands (ring_for h script) (namings_for h script) world []) (sym same) stands;
+  stands = subst (λ world. WorldStands NodeStands (ring_for h script) world []) (sym same) stands;
   muted_are = fun_ext nothing.0;
   lost_are = fun_ext nothing.1;
   requests = tt;

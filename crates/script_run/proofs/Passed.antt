@@ -7,11 +7,11 @@ use Rattle.pond_base.specs.declared.numbers.Party.{Party}
 use Rattle.pond_base.specs.declared.numbers.Party.TheVariants.{Member, Client}
 use Rattle.pond_node.specs.Standing.{NodeStands}
 use Rattle.pond_world.specs.Sites.{SiteView}
-use Rattle.ring_mail.specs.Places.{Place}
-use Rattle.ring_mail.specs.Seats.{IsSeat}
+use Rattle.ring_model.specs.Places.{Place}
+use Rattle.ring_model.specs.Seats.{IsSeat}
 use Rattle.ring_model.specs.Messages.{Party as Who, same_party}
 use Rattle.ring_model.proofs.Owed.{same_party_true, same_party_refl}
-use Rattle.ring_world.specs.Skipping.{Told, stands_at}
+use Rattle.message_model.specs.Told.{Told, stands_at}
 use Rattle.ring_world.specs.Worlds.{WorldStands}
 use Rattle.message_model.specs.Meaning.{who}
 use Rattle.script_limits.specs.Limits.{SetupFits, IsParty}
@@ -21,7 +21,7 @@ use Rattle.ring_mail.specs.Skips.{Skips}
 use Rattle.script_terms.specs.declared.line.Line.{Line}
 use Rattle.script_terms.specs.declared.line.Line.TheVariants.{Submit, Resubmit, Deliver, Lose, Settle, Mute, Unmute, ForgeOrder, ForgePrepare, ForgeCommit, ForgeHeart, ForgeRaw, Read, ShowMember, ShowClient, ShowVersion, ShowRecent}
 use Rattle.script_terms.specs.declared.script.Script.{Script}
-use Rattle.script_run.specs.States.{StandsNext, IsTurn, lines_before, namings_for}
+use Rattle.script_run.specs.States.{StandsNext, IsTurn, lines_before}
 use Rattle.script_run.proofs.Turns.{next_same}
 
 -- ---- muted parties and lost messages, one more or fewer
@@ -92,19 +92,19 @@ declared_seat setup (Client client) fits is = omega (arith, fits.few_clients, is
 -- ---- lines that change what is passed over
 
 pub muted_next : (h : List ℕ → List ℕ) (script : Script) (at : ℕ) (party : Party) (site now : SiteView) (skips left : Skips) → (turn : IsTurn h script at (Mute party) site skips) → now.held ≡ site.held
-    → WorldStands NodeStands (ring_for h script) (namings_for h script) now.world (events_of h script (lines_before script at)) → ((p : Who) → left.muted p ≡ (skips.muted p || same_party (who party) p)) → left.lost ≡ skips.lost
+    → WorldStands NodeStands (ring_for h script) now.world (events_of h script (lines_before script at)) → ((p : Who) → left.muted p ≡ (skips.muted p || same_party (who party) p)) → left.lost ≡ skips.lost
     → StandsNext h script at now left
 muted_next h script at party site now skips left turn held stands more same =
     next_same h script at (Mute party) site now skips left turn refl refl refl held stands (muted_more party (muted (lines_before script at)) skips.muted left.muted turn.stands.muted_are more) (same ∙ turn.stands.lost_are)
 
 pub unmuted_next : (h : List ℕ → List ℕ) (script : Script) (at : ℕ) (party : Party) (site now : SiteView) (skips left : Skips) → (turn : IsTurn h script at (Unmute party) site skips) → now.held ≡ site.held
-    → WorldStands NodeStands (ring_for h script) (namings_for h script) now.world (events_of h script (lines_before script at)) → ((p : Who) → left.muted p ≡ (skips.muted p && not (same_party (who party) p))) → left.lost ≡ skips.lost
+    → WorldStands NodeStands (ring_for h script) now.world (events_of h script (lines_before script at)) → ((p : Who) → left.muted p ≡ (skips.muted p && not (same_party (who party) p))) → left.lost ≡ skips.lost
     → StandsNext h script at now left
 unmuted_next h script at party site now skips left turn held stands fewer same =
     next_same h script at (Unmute party) site now skips left turn refl refl refl held stands (muted_fewer party (muted (lines_before script at)) skips.muted left.muted turn.stands.muted_are fewer) (same ∙ turn.stands.lost_are)
 
 pub lost_next : (h : List ℕ → List ℕ) (script : Script) (at : ℕ) (sender to : Party) (place : ℕ) (site now : SiteView) (skips left : Skips) → (turn : IsTurn h script at (Lose sender to place) site skips) → now.held ≡ site.held
-    → WorldStands NodeStands (ring_for h script) (namings_for h script) now.world (events_of h script (lines_before script at)) → left.muted ≡ skips.muted → ((a : Place) → left.lost a ≡ (skips.lost a || stands_at a (sender, to, place)))
+    → WorldStands NodeStands (ring_for h script) now.world (events_of h script (lines_before script at)) → left.muted ≡ skips.muted → ((a : Place) → left.lost a ≡ (skips.lost a || stands_at a (sender, to, place)))
     → StandsNext h script at now left
 lost_next h script at sender to place site now skips left turn held stands same more =
     next_same h script at (Lose sender to place) site now skips left turn refl refl refl held stands (same ∙ turn.stands.muted_are) (lost_more (sender, to, place) (lost (lines_before script at)) skips.lost left.lost turn.stands.lost_are more)

@@ -18,7 +18,6 @@ use Rattle.pond_world.specs.Sites.{SiteView}
 use Rattle.ring_model.specs.Messages.{Ring}
 use Rattle.ring_model.specs.World as model
 use Rattle.ring_model.specs.World.{world, MayHappen}
-use Rattle.ring_node.specs.Naming.{Namings}
 use Rattle.ring_world.specs.Conditions.{MayStep}
 use Rattle.ring_world.specs.Worlds.{WorldStands, event_of, strings_of}
 use Rattle.ring_world.specs.declared.event.Event.{Event}
@@ -36,19 +35,19 @@ use Rattle.script_terms.specs.declared.script.Script.{Script}
 use Rattle.text_model.specs.Events.{ring_for, world_of, events_of}
 use Rattle.text_model.specs.Requests.{clause_of, count_of, next_request, submitted}
 use Rattle.tree_format.specs.Strings.{label_string}
-use Rattle.script_run.specs.States.{IsTurn, lines_before, namings_for}
+use Rattle.script_run.specs.States.{IsTurn, lines_before}
 use Rattle.script_run.proofs.Turns.{turn_fits}
 
 -- how many requests a client has submitted, as a world that stands for the lines counts them
 pub counted : LinesFitInTurn → CountsJoin → (h : List ℕ → List ℕ) (script : Script) (at : ℕ) (client : ClientId) (label : List ℕ) (clauses : List LineClause) (site : SiteView) (skips : Skips) (w : World Node) (count : ℕ)
     → IsTurn h script at (Submit client label clauses) site skips → w ≡ site.world
-    → ((g : Ring) (namings : Namings) (events : List model.Event) → WorldStands NodeStands g namings w events → client.0 < g.clients → count ≡ count_by (λ r. g.owner r == client.0) (world g events).submits)
+    → ((g : Ring) (events : List model.Event) → WorldStands NodeStands g w events → client.0 < g.clients → count ≡ count_by (λ r. g.owner r == client.0) (world g events).submits)
     → count ≡ count_of client (submitted h (lines_before script at))
 counted fit joins h script at client label clauses site skips w count turn same tells =
     let earlier = lines_before script at in
-    let stands : WorldStands NodeStands (ring_for h script) (namings_for h script) w (events_of h script earlier) =
-    subst (λ v. WorldStands NodeStands (ring_for h script) (namings_for h script) v (events_of h script earlier)) (sym same) turn.stands.stands in
-    tells (ring_for h script) (namings_for h script) (events_of h script earlier) stands (turn_fits fit h script at (Submit client label clauses) site skips turn).0 ∙ joins h script earlier turn.stands.requests client
+    let stands : WorldStands NodeStands (ring_for h script) w (events_of h script earlier) =
+    subst (λ v. WorldStands NodeStands (ring_for h script) v (events_of h script earlier)) (sym same) turn.stands.stands in
+    tells (ring_for h script) (events_of h script earlier) stands (turn_fits fit h script at (Submit client label clauses) site skips turn).0 ∙ joins h script earlier turn.stands.requests client
 
 -- it has a number left
 pub few_counted : LinesFitInTurn → FewAreSubmitted → (h : List ℕ → List ℕ) (script : Script) (at : ℕ) (client : ClientId) (label : List ℕ) (clauses : List LineClause) (site : SiteView) (skips : Skips)
@@ -93,7 +92,7 @@ event_may fit sound come may h script at line e site skips turn is =
 -- the strings that the world names for it
 asked_next : CountsJoin → (h : List ℕ → List ℕ) (script : Script) (at : ℕ) (client : ClientId) (label : List ℕ) (clauses : List LineClause) (made : List Clause) (site : SiteView) (skips : Skips) → IsTurn h script at (Submit client label clauses) site skips
     → made ≡ map (clause_of h) clauses
-    → strings_of (ring_for h script) (namings_for h script) (world_of h script (lines_before script at)) (event.Submit client label (record { clauses = made }))
+    → strings_of (ring_for h script) (world_of h script (lines_before script at)) (event.Submit client label (record { clauses = made }))
     ≡ label_string label ∷ request_string (next_request h (submitted h (lines_before script at)) client label clauses) ∷ []
 asked_next joins h script at client label clauses made site skips turn is =
     let sent = submitted h (lines_before script at) in
@@ -107,7 +106,7 @@ pub record Submits (h : List ℕ → List ℕ) (script : Script) (at : ℕ) (cli
   pub may_step : MayStep (ring_for h script) (world_of h script (lines_before script at)) (event.Submit client label (record { clauses = made }))
   pub may_happen : MayHappen (ring_for h script) (world_of h script (lines_before script at))
       (event_of (ring_for h script) (world_of h script (lines_before script at)) (event.Submit client label (record { clauses = made })))
-  pub names : strings_of (ring_for h script) (namings_for h script) (world_of h script (lines_before script at)) (event.Submit client label (record { clauses = made }))
+  pub names : strings_of (ring_for h script) (world_of h script (lines_before script at)) (event.Submit client label (record { clauses = made }))
       ≡ label_string label ∷ request_string (next_request h (submitted h (lines_before script at)) client label clauses) ∷ []
 
 pub submits : LinesFitInTurn → CountsJoin → RingIsSound → EventsComeOfLines → EventsMayCome → (h : List ℕ → List ℕ) (script : Script) (at : ℕ) (client : ClientId) (count : ℕ) (label : List ℕ) (clauses : List LineClause) (made : List Clause)
@@ -124,18 +123,18 @@ submits fit joins sound come may h script at client count label clauses made sit
 
 -- the world of a site that is this one stands for the lines
 pub stands_same : (h : List ℕ → List ℕ) (script : Script) (at : ℕ) (line : Line) (site : SiteView) (skips : Skips) (w : World Node) → IsTurn h script at line site skips → w ≡ site.world
-    → WorldStands NodeStands (ring_for h script) (namings_for h script) w (events_of h script (lines_before script at))
-stands_same h script at line site skips w turn same = subst (λ v. WorldStands NodeStands (ring_for h script) (namings_for h script) v (events_of h script (lines_before script at))) (sym same) turn.stands.stands
+    → WorldStands NodeStands (ring_for h script) w (events_of h script (lines_before script at))
+stands_same h script at line site skips w turn same = subst (λ v. WorldStands NodeStands (ring_for h script) v (events_of h script (lines_before script at))) (sym same) turn.stands.stands
 
 -- the events with that of the line
 pub stands_next : LinesFitInTurn → EventsComeOfLines → (h : List ℕ → List ℕ) (script : Script) (at : ℕ) (line : Line) (e : Event) (site : SiteView) (skips : Skips) (now : World Node) → (turn : IsTurn h script at line site skips)
     → IsEventOf h script (lines_before script at) line e
-    → WorldStands NodeStands (ring_for h script) (namings_for h script) now (event_of (ring_for h script) (world_of h script (lines_before script at)) e ∷ events_of h script (lines_before script at))
-    → WorldStands NodeStands (ring_for h script) (namings_for h script) now (events_of h script ((turn.number, line) ∷ lines_before script at))
+    → WorldStands NodeStands (ring_for h script) now (event_of (ring_for h script) (world_of h script (lines_before script at)) e ∷ events_of h script (lines_before script at))
+    → WorldStands NodeStands (ring_for h script) now (events_of h script ((turn.number, line) ∷ lines_before script at))
 stands_next fit come h script at line e site skips now turn is stands =
     let earlier = lines_before script at in
     let events = (come h script earlier (turn.number, line) e turn.within.setup (turn_fits fit h script at line site skips turn) turn.stands.requests is).1 in
-    subst (λ es. WorldStands NodeStands (ring_for h script) (namings_for h script) now es) (sym events) stands
+    subst (λ es. WorldStands NodeStands (ring_for h script) now es) (sym events) stands
 
 -- a book that has kept two strings holds the second
 pub second_held : (h : List ℕ → List ℕ) (first second : List ℕ) (strings : List (List ℕ)) (mid now : Held) → strings ≡ first ∷ second ∷ [] → now ≡ keep_all h strings mid → Holds h now second

@@ -17,12 +17,12 @@ use Rattle.script_terms.specs.declared.script.Script.{Script}
 use Rattle.text_model.specs.Events.{ring_for, events_of, world_of}
 use Rattle.text_model.specs.Named.{named}
 use Rattle.text_model.specs.Requests.{Numbered}
-use Rattle.script_run.specs.States.{StandsNext, IsTurn, IsQuiet, lines_before, namings_for}
+use Rattle.script_run.specs.States.{StandsNext, IsTurn, IsQuiet, lines_before}
 use Rattle.script_run.proofs.Turns.{next_from, lines_more}
 use Rattle.script_run.proofs.Settling.{clash_here}
 
 -- a quiet event names nothing
-quiet_strings : (h : List ℕ → List ℕ) (script : Script) (lines : List Numbered) (event : Event) → IsQuiet event → strings_of (ring_for h script) (namings_for h script) (world_of h script lines) event ≡ []
+quiet_strings : (h : List ℕ → List ℕ) (script : Script) (lines : List Numbered) (event : Event) → IsQuiet event → strings_of (ring_for h script) (world_of h script lines) event ≡ []
 quiet_strings h script lines (wevent.Submit client label update) quiet = absurd quiet
 quiet_strings h script lines (wevent.Resubmit client number) quiet = refl
 quiet_strings h script lines (wevent.Deliver sender to place) quiet = absurd quiet
@@ -30,8 +30,8 @@ quiet_strings h script lines (wevent.Forge member to bytes) quiet = refl
 
 -- after a quiet event the line has named nothing
 pub sent_next : (h : List ℕ → List ℕ) (script : Script) (at : ℕ) (line : Line) (event : Event) (site now : SiteView) (skips : Skips) → IsTurn h script at line site skips → IsEventOf h script (lines_before script at) line event → IsQuiet event
-    → Grew h site.held (Contains (strings_of (ring_for h script) (namings_for h script) (world_of h script (lines_before script at)) event)) now.held
-    → WorldStands NodeStands (ring_for h script) (namings_for h script) now.world (events_of h script (lines_before script (at + 1))) → StandsNext h script at now skips
+    → Grew h site.held (Contains (strings_of (ring_for h script) (world_of h script (lines_before script at)) event)) now.held
+    → WorldStands NodeStands (ring_for h script) now.world (events_of h script (lines_before script (at + 1))) → StandsNext h script at now skips
 sent_next h script at line event site now skips turn is quiet grew stands = by line turn is
   where
     earlier : List Numbered
@@ -40,8 +40,8 @@ sent_next h script at line event site now skips turn is quiet grew stands = by l
     just : HoldsJust h site.held (named h script earlier) → HoldsJust h now.held (named h script earlier ++ [])
     just holds = holds_more h site.held now.held (named h script earlier) [] holds (subst (λ ss. Grew h site.held (Contains ss) now.held) (quiet_strings h script earlier event quiet) grew) (all_none h now.held)
 
-    here : (l : Line) (number : ℕ) → slice_get script.lines at ≡ Some (number, l) → WorldStands NodeStands (ring_for h script) (namings_for h script) now.world (events_of h script ((number, l) ∷ earlier))
-    here l number there = subst (λ lines. WorldStands NodeStands (ring_for h script) (namings_for h script) now.world (events_of h script lines)) (lines_more script at (number, l) there) stands
+    here : (l : Line) (number : ℕ) → slice_get script.lines at ≡ Some (number, l) → WorldStands NodeStands (ring_for h script) now.world (events_of h script ((number, l) ∷ earlier))
+    here l number there = subst (λ lines. WorldStands NodeStands (ring_for h script) now.world (events_of h script lines)) (lines_more script at (number, l) there) stands
 
     by : (l : Line) → IsTurn h script at l site skips → IsEventOf h script earlier l event → StandsNext h script at now skips
     by (Submit client label clauses) t e = absurd (subst IsQuiet e.0 quiet)
@@ -69,7 +69,7 @@ sent_next h script at line event site now skips turn is quiet grew stands = by l
 
 -- a clash at a quiet event is none of its own
 pub sent_clash : (h : List ℕ → List ℕ) (script : Script) (at : ℕ) (line : Line) (event : Event) (site : SiteView) (skips : Skips) (fault : NameFault) → IsTurn h script at line site skips → IsQuiet event
-    → IsClashAfter h site.held (Contains (strings_of (ring_for h script) (namings_for h script) (world_of h script (lines_before script at)) event)) fault → IsClashOf h (named h script (lines_before script (at + 1))) fault
+    → IsClashAfter h site.held (Contains (strings_of (ring_for h script) (world_of h script (lines_before script at)) event)) fault → IsClashOf h (named h script (lines_before script (at + 1))) fault
 sent_clash h script at line event site skips fault turn quiet after =
     clash_here h script at line site skips (Contains []) fault turn (λ s c. absurd (contains_none s c))
     (subst (λ ss. IsClashAfter h site.held (Contains ss) fault) (quiet_strings h script (lines_before script at) event quiet) after)

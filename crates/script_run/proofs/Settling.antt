@@ -11,10 +11,10 @@ use Rattle.ring_model.specs.World.{IsLegal}
 use Rattle.ring_model.specs.Laws.{NoClash}
 use Rattle.ring_model.proofs.Lists.{Each-from_there}
 use Rattle.ring_world.specs.declared.event.Event.TheVariants as wevent
-use Rattle.ring_mail.specs.Skips.{Skips}
-use Rattle.ring_world.specs.Deliveries.{settled, named_along, IsNamedIn}
+use Rattle.ring_mail.specs.Skips.{Skips, is_skipped}
+use Rattle.ring_model.specs.Deliveries.{settled}
+use Rattle.message_model.specs.Naming.{named_along, IsNamedIn}
 use Rattle.ring_world.specs.Settles.{Settles}
-use Rattle.ring_mail.specs.Skips.{is_skipped}
 use Rattle.ring_world.specs.Worlds.{WorldStands, strings_of}
 use Rattle.script_events.specs.Laws.{SubmitsAreRequests}
 use Rattle.script_names.specs.Laws.{AreOfLines, DeliveriesAreNamed, SettlesAreNamed, SkipsJoin, SettledJoins}
@@ -26,7 +26,7 @@ use Rattle.script_terms.specs.declared.script.Script.{Script}
 use Rattle.text_model.specs.Events.{ring_for, events_of, world_of, is_passed, most_messages}
 use Rattle.text_model.specs.Named.{named, line_strings, committed_strings}
 use Rattle.text_model.specs.Requests.{Numbered}
-use Rattle.script_run.specs.States.{StandsNext, IsTurn, lines_before, namings_for}
+use Rattle.script_run.specs.States.{StandsNext, IsTurn, lines_before}
 use Rattle.script_run.proofs.Coming.{Comes}
 use Rattle.script_run.proofs.Turns.{next_from, lines_more}
 use Rattle.script_run.proofs.Widening.{holds_wider, clash_among}
@@ -47,7 +47,7 @@ of_lines submits h script at line site skips turn = record {
 -- what is named at a delivery is named up to its line
 pub delivery_named : SubmitsAreRequests → DeliveriesAreNamed → (h : List ℕ → List ℕ) (script : Script) (at : ℕ) (sender to : Party) (place : ℕ) (site : SiteView) (skips : Skips) → (turn : IsTurn h script at (Deliver sender to place) site skips)
     → Comes h script at turn.number (Deliver sender to place) (wevent.Deliver sender to place) → NoClash (ring_for h script) (world_of h script (lines_before script at)).submits
-    → (s : List ℕ) → Contains (strings_of (ring_for h script) (namings_for h script) (world_of h script (lines_before script at)) (wevent.Deliver sender to place)) s
+    → (s : List ℕ) → Contains (strings_of (ring_for h script) (world_of h script (lines_before script at)) (wevent.Deliver sender to place)) s
     → Contains (named h script ((turn.number, Deliver sender to place) ∷ lines_before script at)) s
 delivery_named submits law h script at sender to place site skips turn comes apart s c =
     let earlier = lines_before script at in
@@ -64,29 +64,29 @@ passed_over join h script at line site skips turn = join skips (lines_before scr
 -- what is named at a settle is named up to its line
 pub settle_named : SubmitsAreRequests → SkipsJoin → SettlesAreNamed → (h : List ℕ → List ℕ) (script : Script) (at : ℕ) (site : SiteView) (skips : Skips) → (turn : IsTurn h script at Settle site skips)
     → NoClash (ring_for h script) (world_of h script (lines_before script at)).submits
-    → (s : List ℕ) → IsNamedIn (ring_for h script) (namings_for h script) (is_skipped skips) (events_of h script (lines_before script at)) s → Contains (named h script ((turn.number, Settle) ∷ lines_before script at)) s
+    → (s : List ℕ) → IsNamedIn (ring_for h script) (is_skipped skips) (events_of h script (lines_before script at)) s → Contains (named h script ((turn.number, Settle) ∷ lines_before script at)) s
 settle_named submits join law h script at site skips turn apart s is =
     let earlier = lines_before script at in
     let g = ring_for h script in
     let events = events_of h script earlier in
     law h script earlier (turn.number, Settle) is.0 s refl (omega (arith, is.1)) turn.within.setup (of_lines submits h script at Settle site skips turn) turn.stands.stands.legal apart
-    (subst (λ passed. Contains (named_along g (namings_for h script) events (settled g passed events is.0)) s) (passed_over join h script at Settle site skips turn) is.2)
+    (subst (λ passed. Contains (named_along g events (settled g passed events is.0)) s) (passed_over join h script at Settle site skips turn) is.2)
 
 -- the world after a settle stands for the events up to its line
 pub settle_stands : SkipsJoin → SettledJoins → (h : List ℕ → List ℕ) (script : Script) (at : ℕ) (site : SiteView) (skips : Skips) (now : SiteView) (n : ℕ) → (turn : IsTurn h script at Settle site skips) → n ≤ most_messages
-    → Settles NodeStands (ring_for h script) (namings_for h script) (is_skipped skips) (events_of h script (lines_before script at)) now.world n
-    → WorldStands NodeStands (ring_for h script) (namings_for h script) now.world (events_of h script ((turn.number, Settle) ∷ lines_before script at))
+    → Settles NodeStands (ring_for h script) (is_skipped skips) (events_of h script (lines_before script at)) now.world n
+    → WorldStands NodeStands (ring_for h script) now.world (events_of h script ((turn.number, Settle) ∷ lines_before script at))
 settle_stands join law h script at site skips now n turn few settles =
     let earlier = lines_before script at in
     let g = ring_for h script in
     let events = events_of h script earlier in
-    let done : Settles NodeStands g (namings_for h script) (is_passed earlier) events now.world n =
-    subst (λ passed. Settles NodeStands g (namings_for h script) passed events now.world n) (passed_over join h script at Settle site skips turn) settles in
-    subst (WorldStands NodeStands g (namings_for h script) now.world) (sym (law g (is_passed earlier) events n few done.all)) done.is
+    let done : Settles NodeStands g (is_passed earlier) events now.world n =
+    subst (λ passed. Settles NodeStands g passed events now.world n) (passed_over join h script at Settle site skips turn) settles in
+    subst (WorldStands NodeStands g now.world) (sym (law g (is_passed earlier) events n few done.all)) done.is
 
 -- the message at a place was delivered
 pub delivered_next : (h : List ℕ → List ℕ) (script : Script) (at : ℕ) (sender to : Party) (place : ℕ) (site now : SiteView) (skips : Skips) (Of : List ℕ → Type 0) → (turn : IsTurn h script at (Deliver sender to place) site skips)
-    → WorldStands NodeStands (ring_for h script) (namings_for h script) now.world (events_of h script ((turn.number, Deliver sender to place) ∷ lines_before script at)) → Grew h site.held Of now.held
+    → WorldStands NodeStands (ring_for h script) now.world (events_of h script ((turn.number, Deliver sender to place) ∷ lines_before script at)) → Grew h site.held Of now.held
     → ((s : List ℕ) → Of s → Contains (named h script ((turn.number, Deliver sender to place) ∷ lines_before script at)) s)
     → HoldsAll h now.held (committed_strings h script ((turn.number, Deliver sender to place) ∷ lines_before script at)) → StandsNext h script at now skips
 delivered_next h script at sender to place site now skips Of turn stands grew among all =
@@ -97,7 +97,7 @@ delivered_next h script at sender to place site now skips Of turn stands grew am
 
 -- all that was pending was delivered
 pub settled_next : (h : List ℕ → List ℕ) (script : Script) (at : ℕ) (site now : SiteView) (skips : Skips) (Of : List ℕ → Type 0) → (turn : IsTurn h script at Settle site skips)
-    → WorldStands NodeStands (ring_for h script) (namings_for h script) now.world (events_of h script ((turn.number, Settle) ∷ lines_before script at)) → Grew h site.held Of now.held
+    → WorldStands NodeStands (ring_for h script) now.world (events_of h script ((turn.number, Settle) ∷ lines_before script at)) → Grew h site.held Of now.held
     → ((s : List ℕ) → Of s → Contains (named h script ((turn.number, Settle) ∷ lines_before script at)) s)
     → HoldsAll h now.held (committed_strings h script ((turn.number, Settle) ∷ lines_before script at)) → StandsNext h script at now skips
 settled_next h script at site now skips Of turn stands grew among all =

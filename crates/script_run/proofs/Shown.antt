@@ -19,7 +19,6 @@ use Rattle.fold_model.specs.Laws.{RingFolds}
 use Rattle.object_fold.specs.Views.{ObjectsView}
 use Rattle.object_model.specs.Folds.{versions_after}
 use Rattle.object_fold.specs.Executed.{AreAfter, ForAfter}
-use Rattle.ring_node.specs.Naming.{Namings}
 use Rattle.pond_node.specs.declared.node.Node.{Node}
 use Rattle.pond_node.specs.Standing.{NodeStands}
 use Rattle.pond_world.specs.Sites.{SiteView}
@@ -36,18 +35,18 @@ use Rattle.script_events.specs.Laws.{SubmitsAreRequests}
 use Rattle.script_events.proofs.Spelled.{spelled, each_spelled}
 use Rattle.script_printing.specs.Executed.{AreRequestStrings, ForExecuted}
 use Rattle.text_model.specs.Blocks.{faulty_text, member_text, shape_text, up_to}
-use Rattle.text_model.specs.Events.{ring_for, events_of, world_of, is_declared_faulty, no_manifest}
+use Rattle.text_model.specs.Events.{ring_for, events_of, world_of, is_declared_faulty, no_archives}
 use Rattle.text_model.specs.Executed.{committed_requests, member_requests}
 use Rattle.text_model.specs.Requests.{Numbered, submitted}
 use Rattle.text_model.specs.Text.{of_member, line_text}
-use Rattle.script_run.specs.States.{StandsFor, IsTurn, PrintsAt, lines_before, namings_for}
+use Rattle.script_run.specs.States.{StandsFor, IsTurn, PrintsAt, lines_before}
 use Rattle.script_run.proofs.Turns.{turn_fits}
 
 -- ---- the ring of a script
 
 -- its members fold what they execute
-pub folds_here : RingFolds → (h : List ℕ → List ℕ) (script : Script) → FoldsAs h script.setup.block (ring_for h script) (namings_for h script)
-folds_here folds h script = folds script.setup.f script.setup.clients (is_declared_faulty script) h script.setup.block no_manifest
+pub folds_here : RingFolds → (h : List ℕ → List ℕ) (script : Script) → FoldsAs h script.setup.block (ring_for h script)
+folds_here folds h script = folds script.setup.f script.setup.clients (is_declared_faulty script) h script.setup.block no_archives
 
 -- the number of bytes of a whole leaf has four bytes
 pub block_small : (script : Script) → IsWithin script → script.setup.block < 2 ^ 32
@@ -55,28 +54,28 @@ block_small script within = omega (arith, within.setup.most)
 
 -- the world of a state
 pub world_is : (h : List ℕ → List ℕ) (script : Script) (lines : List Numbered) (site : SiteView) (skips : Skips) (w : World Node) → StandsFor h script lines site skips → w ≡ site.world
-    → WorldStands NodeStands (ring_for h script) (namings_for h script) w (events_of h script lines)
-world_is h script lines site skips w is same = subst (λ v. WorldStands NodeStands (ring_for h script) (namings_for h script) v (events_of h script lines)) (sym same) is.stands
+    → WorldStands NodeStands (ring_for h script) w (events_of h script lines)
+world_is h script lines site skips w is same = subst (λ v. WorldStands NodeStands (ring_for h script) v (events_of h script lines)) (sym same) is.stands
 
 -- ---- objects
 
 -- the objects of a node are those after what it executed
 abbrev pub ShowsObjects : Node → ObjectsView → Type 0
 ShowsObjects node objects =
-    (g : Ring) (namings : Namings) (i : ℕ) (got : List Letter) → NodeStands node g namings i got → (block : ℕ) → block < 2 ^ 32 → FoldsAs g.h block g namings
+    (g : Ring) (i : ℕ) (got : List Letter) (archived : ℕ) → NodeStands node g i got archived → (block : ℕ) → block < 2 ^ 32 → FoldsAs g.h block g
     → AreAfter g.h block (requests_of (executed g got)) objects
 
 -- the objects of a member
 pub member_after : RingFolds → (h : List ℕ → List ℕ) (script : Script) (lines : List Numbered) (member : MemberId) (node : Node) (objects : ObjectsView) → IsWithin script → ShowsObjects node objects
-    → NodeStands node (ring_for h script) (namings_for h script) member.0 ((world_of h script lines).got (Member member.0))
+    → NodeStands node (ring_for h script) member.0 ((world_of h script lines).got (Member member.0)) ((world_of h script lines).archived member.0)
     → AreAfter h script.setup.block (member_requests h script lines member) objects
 member_after folds h script lines member node objects within shows stands =
-    shows (ring_for h script) (namings_for h script) member.0 ((world_of h script lines).got (Member member.0)) stands script.setup.block (block_small script within) (folds_here folds h script)
+    shows (ring_for h script) member.0 ((world_of h script lines).got (Member member.0)) ((world_of h script lines).archived member.0) stands script.setup.block (block_small script within) (folds_here folds h script)
 
 -- a node has executed the committed list
 abbrev pub HasChosen : (List ℕ → List ℕ) → Script → List Numbered → Node → Type 0
 HasChosen h script lines node =
-    (i : ℕ) × IsCorrect (ring_for h script) i × NodeStands node (ring_for h script) (namings_for h script) i ((world_of h script lines).got (Member i))
+    (i : ℕ) × IsCorrect (ring_for h script) i × NodeStands node (ring_for h script) i ((world_of h script lines).got (Member i)) ((world_of h script lines).archived i)
     × (executed (ring_for h script) ((world_of h script lines).got (Member i)) ≡ chosen (ring_for h script) (world_of h script lines))
 
 -- its objects
@@ -84,7 +83,7 @@ pub committed_after : RingFolds → (h : List ℕ → List ℕ) (script : Script
     → AreAfter h script.setup.block (committed_requests h script lines) objects
 committed_after folds h script lines node objects within shows found =
     subst (λ strings. AreAfter h script.setup.block (requests_of strings) objects) found.3
-    (shows (ring_for h script) (namings_for h script) found.0 ((world_of h script lines).got (Member found.0)) found.2 script.setup.block (block_small script within) (folds_here folds h script))
+    (shows (ring_for h script) found.0 ((world_of h script lines).got (Member found.0)) ((world_of h script lines).archived found.0) found.2 script.setup.block (block_small script within) (folds_here folds h script))
 
 -- ---- members
 
@@ -132,13 +131,13 @@ member_line h script lines member printed correct is =
     is ∙ shown
 
 pub member_told : {S E : Type 0} (bytes : S → List ℕ) (r : Result S E) (h : List ℕ → List ℕ) (script : Script) (lines : List Numbered) (member : MemberId) (node : Node) → RingFolds → IsWithin script → true ≡ not (is_declared_faulty script member.0)
-    → NodeStands node (ring_for h script) (namings_for h script) member.0 ((world_of h script lines).got (Member member.0)) → AreRequestStrings (executed (ring_for h script) ((world_of h script lines).got (Member member.0)))
+    → NodeStands node (ring_for h script) member.0 ((world_of h script lines).got (Member member.0)) ((world_of h script lines).archived member.0) → AreRequestStrings (executed (ring_for h script) ((world_of h script lines).got (Member member.0)))
     → IfOk r (λ printed. ForExecuted node (λ k block strings. bytes printed ≡ member_text k block member (requests_of strings))) → IfOk r (λ printed. bytes printed ≡ line_text h script lines (ShowMember member))
 member_told bytes r h script lines member node folds within correct stands spelled told =
     IfOk-weaker r (λ printed. ForExecuted node (λ k block strings. bytes printed ≡ member_text k block member (requests_of strings))) (λ printed. bytes printed ≡ line_text h script lines (ShowMember member))
     (λ printed p.
     let is : bytes printed ≡ member_text h script.setup.block member (member_requests h script lines member) =
-    p (ring_for h script) (namings_for h script) member.0 ((world_of h script lines).got (Member member.0)) stands script.setup.block (block_small script within) (folds_here folds h script) spelled in
+    p (ring_for h script) member.0 ((world_of h script lines).got (Member member.0)) ((world_of h script lines).archived member.0) stands script.setup.block (block_small script within) (folds_here folds h script) spelled in
     member_line h script lines member (bytes printed) correct is)
     told
 

@@ -25,7 +25,7 @@ use Rattle.text_model.specs.Events.{ring_for, events_of}
 use Rattle.text_model.specs.Named.{named, start_strings, label_strings, line_strings, clause_strings}
 use Rattle.text_model.specs.Requests.{Numbered, submitted, next_request}
 use Rattle.tree_format.specs.Strings.{label_string}
-use Rattle.script_run.specs.States.{StandsNext, IsTurn, lines_before, namings_for}
+use Rattle.script_run.specs.States.{StandsNext, IsTurn, lines_before}
 use Rattle.script_run.proofs.Turns.{next_from, lines_more}
 use Rattle.script_run.proofs.Widening.{holds_wider, clash_among, clash_then}
 
@@ -71,7 +71,7 @@ leaves_named h script at client label clauses s c =
 
 pub submitted_next : (h : List ℕ → List ℕ) (script : Script) (at : ℕ) (client : ClientId) (label : List ℕ) (clauses : List LineClause) (site : SiteView) (skips : Skips) (mid : Held) (now : SiteView)
     → (turn : IsTurn h script at (Submit client label clauses) site skips)
-    → WorldStands NodeStands (ring_for h script) (namings_for h script) now.world (events_of h script ((turn.number, Submit client label clauses) ∷ lines_before script at))
+    → WorldStands NodeStands (ring_for h script) now.world (events_of h script ((turn.number, Submit client label clauses) ∷ lines_before script at))
     → Grew h site.held (Contains (flat_map clause_strings clauses)) mid → HoldsAll h mid (flat_map clause_strings clauses)
     → Grew h mid (Contains (label_string label ∷ request_string (next_request h (submitted h (lines_before script at)) client label clauses) ∷ [])) now.held
     → Holds h now.held (request_string (next_request h (submitted h (lines_before script at)) client label clauses))

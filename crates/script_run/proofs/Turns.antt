@@ -18,7 +18,7 @@ use Rattle.script_names.specs.Laws.{muted_in, lost_in}
 use Rattle.text_model.specs.Events.{ring_for, events_of, with_events, muted, muted_by, lost, lost_by}
 use Rattle.text_model.specs.Named.{named, line_strings}
 use Rattle.text_model.specs.Requests.{Numbered, submitted, with_line}
-use Rattle.script_run.specs.States.{StandsFor, StandsNext, IsTurn, lines_before, namings_for}
+use Rattle.script_run.specs.States.{StandsFor, StandsNext, IsTurn, lines_before}
 
 take_more : {X : Type 0} (xs : List X) (k : ℕ) (x : X) → slice_get xs k ≡ Some x → take (k + 1) xs ≡ take k xs ++ x ∷ []
 take_more xs k x is = elim (slice_get_cases xs k).1 as (λ _. take (k + 1) xs ≡ take k xs ++ x ∷ []) [
@@ -44,7 +44,7 @@ turn_fits fit h script at line site skips turn =
 -- what is left after a line stands for one line more
 pub next_from : (h : List ℕ → List ℕ) (script : Script) (at number : ℕ) (line : Line) (site : SiteView) (skips : Skips) → slice_get script.lines at ≡ Some (number, line)
     → HoldsJust h site.held (named h script (lines_before script at) ++ line_strings h script (lines_before script at) (number, line))
-    → WorldStands NodeStands (ring_for h script) (namings_for h script) site.world (with_events h (ring_for h script) (lines_before script at) (events_of h script (lines_before script at)) line)
+    → WorldStands NodeStands (ring_for h script) site.world (with_events h (ring_for h script) (lines_before script at) (events_of h script (lines_before script at)) line)
     → skips.muted ≡ muted_in (muted_by (muted (lines_before script at)) line) → skips.lost ≡ lost_in (lost_by (lost (lines_before script at)) line)
     → AllByRecursion IsRequest (with_line h (submitted h (lines_before script at)) line) → StandsNext h script at site skips
 next_from h script at number line site skips here holds stands muted_are lost_are requests =
@@ -64,11 +64,11 @@ holds_still h site strings holds = subst (HoldsJust h site.held) (sym (append-ni
 pub next_same : (h : List ℕ → List ℕ) (script : Script) (at : ℕ) (line : Line) (site now : SiteView) (skips left : Skips) → (turn : IsTurn h script at line site skips)
     → line_strings h script (lines_before script at) (turn.number, line) ≡ [] → with_events h (ring_for h script) (lines_before script at) (events_of h script (lines_before script at)) line ≡ events_of h script (lines_before script at)
     → with_line h (submitted h (lines_before script at)) line ≡ submitted h (lines_before script at) → now.held ≡ site.held
-    → WorldStands NodeStands (ring_for h script) (namings_for h script) now.world (events_of h script (lines_before script at))
+    → WorldStands NodeStands (ring_for h script) now.world (events_of h script (lines_before script at))
     → left.muted ≡ muted_in (muted_by (muted (lines_before script at)) line) → left.lost ≡ lost_in (lost_by (lost (lines_before script at)) line) → StandsNext h script at now left
 next_same h script at line site now skips left turn none still same kept stands muted_are lost_are =
     let earlier = lines_before script at in
     next_from h script at turn.number line now left turn.here
     (subst (λ ss. HoldsJust h now.held (named h script earlier ++ ss)) (sym none) (subst (λ held. HoldsJust h held (named h script earlier ++ [])) (sym kept) (holds_still h site (named h script earlier) turn.stands.holds)))
-    (subst (WorldStands NodeStands (ring_for h script) (namings_for h script) now.world) (sym still) stands) muted_are lost_are
+    (subst (WorldStands NodeStands (ring_for h script) now.world) (sym still) stands) muted_are lost_are
     (subst (AllByRecursion IsRequest) (sym same) turn.stands.requests)

@@ -10,9 +10,7 @@ use Rattle.ring_model.specs.Messages as model
 use Rattle.ring_model.specs.World.{World}
 use Rattle.object_model.specs.Trees.{object_name}
 use Rattle.message_model.specs.Meaning.{said}
-use Rattle.fold_model.specs.Folds.{namings_by}
 use Rattle.pond_node.specs.Standing.{NodeStands}
-use Rattle.ring_node.specs.Naming.{Namings}
 use Rattle.ring_world.specs.declared.event.Event.{Event}
 use Rattle.ring_world.specs.declared.event.Event.TheVariants as wevent
 use Rattle.ring_mail.specs.Skips.{Skips}
@@ -30,14 +28,10 @@ use Rattle.text_model.specs.Named.{named}
 use Rattle.text_model.specs.Requests.{Numbered, submitted}
 use Rattle.text_model.specs.Text.{line_text}
 
--- the strings that executions name
-abbrev pub namings_for : (List ℕ → List ℕ) → Script → Namings
-namings_for h script = namings_by h script.setup.block
-
 -- Some lines of a script were run: the book holds just the strings that they name, the world stands for the events that they are, and what is passed over is what they say.
 pub record StandsFor (h : List ℕ → List ℕ) (script : Script) (lines : List Numbered) (site : SiteView) (skips : Skips) : Type 0 where
   pub holds : HoldsJust h site.held (named h script lines)
-  pub stands : WorldStands NodeStands (ring_for h script) (namings_for h script) site.world (events_of h script lines)
+  pub stands : WorldStands NodeStands (ring_for h script) site.world (events_of h script lines)
   pub muted_are : skips.muted ≡ muted_in (muted lines)
   pub lost_are : skips.lost ≡ lost_in (lost lines)
   pub requests : AllByRecursion IsRequest (submitted h lines)

@@ -15,7 +15,7 @@ ghost use Rattle.text_model.specs.Named.{label_strings, start_strings};
 ghost use Rattle.text_model.specs.Requests.{Numbered};
 ghost use Rattle.tree_format.specs.Strings.{label_string};
 ghost use Rattle.script_run.specs.Labels.{AreLabels};
-ghost use Rattle.script_run.specs.States.{StandsFor, namings_for};
+ghost use Rattle.script_run.specs.States.{StandsFor};
 
 use crate::labels::Labels;
 use crate::state::State;
@@ -52,7 +52,7 @@ impl<H: Hash160 + Drop> State<H> {
 
 // The strings of the empty version are held. Does nothing but look.
 fn holds_empty<H: Hash160 + Drop>(site: &Site<H>, script: &Script)
-    ensures { WorldStands NodeStands (ring_for H.naming script.now) (namings_for H.naming script.now) site.now.world [] → IsWithin script.now
+    ensures { WorldStands NodeStands (ring_for H.naming script.now) site.now.world [] → IsWithin script.now
         → HoldsAll H.naming site.now.held (version_strings H.naming script.now.setup.block [] []) }
 {
     ring_folds();

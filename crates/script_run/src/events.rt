@@ -16,7 +16,7 @@ ghost use Rattle.text_model.specs.Requests.{Numbered};
 ghost use Rattle.script_terms.specs.declared.script.Script.{Script};
 ghost use Rattle.std.specs.Prelude.{List, ℕ};
 ghost use Rattle.script_run.specs.Labels.{AreLabels};
-ghost use Rattle.script_run.specs.States.{StandsFor, StandsNext, IsTurn, IsComing, IsQuiet, lines_before, namings_for};
+ghost use Rattle.script_run.specs.States.{StandsFor, StandsNext, IsTurn, IsComing, IsQuiet, lines_before};
 
 use crate::labels::Labels;
 use crate::state::State;
@@ -29,11 +29,13 @@ use script_events::{events_come_of_lines, setups_join, submits_are_requests};
 use script_limits::lines_fit_in_turn;
 use script_names::{deliveries_are_named, settled_joins, settles_are_named, skips_join};
 use script_terms::{Line, Script};
+use std::thread::Threads;
 
 impl<H: Hash160 + Drop> State<H> {
     /// The state after the line at a place.
-    pub(crate) fn after(
+    pub(crate) fn after<R: Threads>(
         self,
+        rt: &R,
         labels: &Labels,
         script: &Script,
         at: usize,
@@ -51,11 +53,11 @@ impl<H: Hash160 + Drop> State<H> {
                 client,
                 label,
                 clauses,
-            } => self.submitted(script, at, *client, *label, clauses.as_slice()),
-            Line::Resubmit { client, number } => self.resubmitted(script, at, *client, *number),
-            Line::Deliver { from, to, place } => self.delivered(script, at, *from, *to, *place),
+            } => self.submitted(rt, script, at, *client, *label, clauses.as_slice()),
+            Line::Resubmit { client, number } => self.resubmitted(rt, script, at, *client, *number),
+            Line::Deliver { from, to, place } => self.delivered(rt, script, at, *from, *to, *place),
             Line::Lose { from, to, place } => Ok(self.lost(script, at, *from, *to, *place)?),
-            Line::Settle => self.settled(script, at),
+            Line::Settle => self.settled(rt, script, at),
             Line::Mute { party } => Ok(self.muted(script, at, *party)?),
             Line::Unmute { party } => Ok(self.unmuted(script, at, *party)?),
             Line::ForgeOrder {
@@ -64,30 +66,30 @@ impl<H: Hash160 + Drop> State<H> {
                 seq,
                 client,
                 number,
-            } => self.forged_order(script, at, *member, *to, *seq, *client, *number),
+            } => self.forged_order(rt, script, at, *member, *to, *seq, *client, *number),
             Line::ForgePrepare {
                 member,
                 to,
                 seq,
                 client,
                 number,
-            } => self.forged_prepare(script, at, *member, *to, *seq, *client, *number),
+            } => self.forged_prepare(rt, script, at, *member, *to, *seq, *client, *number),
             Line::ForgeCommit {
                 member,
                 to,
                 seq,
                 client,
                 number,
-            } => self.forged_commit(script, at, *member, *to, *seq, *client, *number),
+            } => self.forged_commit(rt, script, at, *member, *to, *seq, *client, *number),
             Line::ForgeHeart {
                 member,
                 to,
                 label,
                 version,
                 name,
-            } => self.forged_heart(labels, script, at, *member, *to, label, *version, *name),
+            } => self.forged_heart(rt, labels, script, at, *member, *to, label, *version, *name),
             Line::ForgeRaw { member, to, bytes } => self.forged_raw(
-                script, at, *member, *to, bytes,
+                rt, script, at, *member, *to, bytes,
             ),
             Line::Read { .. }
             | Line::ShowMember { .. }
@@ -98,8 +100,9 @@ impl<H: Hash160 + Drop> State<H> {
     }
 
     // The client sends its request of a number again.
-    fn resubmitted(
+    fn resubmitted<R: Threads>(
         self,
+        rt: &R,
         script: &Script,
         at: usize,
         client: ClientId,
@@ -109,12 +112,13 @@ impl<H: Hash160 + Drop> State<H> {
         ensures stands { IfOk result (λ state. StandsNext H.naming script.now at state.site (skips state.site.world)) }
         ensures fault { IfErr result (IsClashOf H.naming (named H.naming script.now (lines_before script.now (at + 1)))) }
     {
-        self.sent(script, at, Event::Resubmit { client, number })
+        self.sent(rt, script, at, Event::Resubmit { client, number })
     }
 
     // An event that sends messages and names nothing.
-    pub(crate) fn sent(
+    pub(crate) fn sent<R: Threads>(
         self,
+        rt: &R,
         script: &Script,
         at: usize,
         event: Event,
@@ -124,13 +128,14 @@ impl<H: Hash160 + Drop> State<H> {
         ensures stands { IfOk result (λ state. StandsNext H.naming script.now at state.site (skips state.site.world)) }
         ensures fault { IfErr result (IsClashOf H.naming (named H.naming script.now (lines_before script.now (at + 1)))) }
     {
-        let state = self.advanced(script, at, event)?;
+        let state = self.advanced(rt, script, at, event)?;
         Ok(state)
     }
 
     // The message at a place is delivered.
-    fn delivered(
+    fn delivered<R: Threads>(
         self,
+        rt: &R,
         script: &Script,
         at: usize,
         from: Party,
@@ -148,13 +153,13 @@ impl<H: Hash160 + Drop> State<H> {
         events_may_come();
         deliveries_are_named();
         self.site.world().submits_apart(self.site.book());
-        let state = self.advanced(script, at, Event::Deliver { from, to, place })?;
+        let state = self.advanced(rt, script, at, Event::Deliver { from, to, place })?;
         holds_committed(&state.site, script);
         Ok(state)
     }
 
     // All that is pending and not passed over is delivered.
-    fn settled(self, script: &Script, at: usize) -> Result<State<H>, NameFault>
+    fn settled<R: Threads>(self, rt: &R, script: &Script, at: usize) -> Result<State<H>, NameFault>
         requires { IsTurn H.naming script.now at Settle self.site (skips self.site.world) }
         ensures stands { IfOk result (λ state. StandsNext H.naming script.now at state.site (skips state.site.world)) }
         ensures fault { IfErr result (IsClashOf H.naming (named H.naming script.now (lines_before script.now (at + 1)))) }
@@ -166,7 +171,7 @@ impl<H: Hash160 + Drop> State<H> {
         settles_are_named();
         self.site.world().submits_apart(self.site.book());
         let mut state = self;
-        match state.site.settle() {
+        match state.site.settle(rt) {
             Ok(_) => {
                 holds_committed(&state.site, script);
                 Ok(state)
@@ -176,14 +181,20 @@ impl<H: Hash160 + Drop> State<H> {
     }
 
     // The world after an event.
-    fn advanced(self, script: &Script, at: usize, event: Event) -> Result<State<H>, NameFault>
+    fn advanced<R: Threads>(
+        self,
+        rt: &R,
+        script: &Script,
+        at: usize,
+        event: Event,
+    ) -> Result<State<H>, NameFault>
         requires { IsComing H.naming script.now at event self.site (skips self.site.world) }
-        ensures stands { IfOk result (λ state. WorldStands NodeStands (ring_for H.naming script.now) (namings_for H.naming script.now) state.site.world (events_of H.naming script.now (lines_before script.now (at + 1)))) }
+        ensures stands { IfOk result (λ state. WorldStands NodeStands (ring_for H.naming script.now) state.site.world (events_of H.naming script.now (lines_before script.now (at + 1)))) }
         ensures skips { IfOk result (λ state. skips state.site.world ≡ skips self.site.world) }
         ensures grew { IfOk result (λ state. Grew H.naming self.site.held
-            (Contains (strings_of (ring_for H.naming script.now) (namings_for H.naming script.now) (world_of H.naming script.now (lines_before script.now at)) event)) state.site.held) }
+            (Contains (strings_of (ring_for H.naming script.now) (world_of H.naming script.now (lines_before script.now at)) event)) state.site.held) }
         ensures fault { IfErr result (IsClashAfter H.naming self.site.held
-            (Contains (strings_of (ring_for H.naming script.now) (namings_for H.naming script.now) (world_of H.naming script.now (lines_before script.now at)) event))) }
+            (Contains (strings_of (ring_for H.naming script.now) (world_of H.naming script.now (lines_before script.now at)) event))) }
     {
         events_come_of_lines();
         events_may_come();
@@ -191,7 +202,7 @@ impl<H: Hash160 + Drop> State<H> {
         lines_fit_in_turn();
         let mut state = self;
         state.site.world().may_step(&event);
-        match state.site.step(event) {
+        match state.site.step(rt, event) {
             Ok(_) => Ok(state),
             Err(fault) => Err(cause_of(fault)),
         }
@@ -212,7 +223,7 @@ pub(crate) fn cause_of(fault: StepFault) -> NameFault
 
 // All strings of the versions that the committed list makes are held. Does nothing but look.
 fn holds_committed<H: Hash160 + Drop>(site: &Site<H>, script: &Script)
-    ensures { (lines : List Numbered) → WorldStands NodeStands (ring_for H.naming script.now) (namings_for H.naming script.now) site.now.world (events_of H.naming script.now lines)
+    ensures { (lines : List Numbered) → WorldStands NodeStands (ring_for H.naming script.now) site.now.world (events_of H.naming script.now lines)
         → IsWithin script.now → HoldsAll H.naming site.now.held (committed_strings H.naming script.now lines) }
 {
     ring_folds();

@@ -20,11 +20,13 @@ use ring_world::Event;
 use script_events::asked_is_there;
 use script_limits::lines_fit_in_turn;
 use script_terms::Script;
+use std::thread::Threads;
 
 impl<H: Hash160 + Drop> State<H> {
     /// A faulty member sends an order of a client's request for a slot.
-    pub(crate) fn forged_order(
+    pub(crate) fn forged_order<R: Threads>(
         self,
+        rt: &R,
         script: &Script,
         at: usize,
         member: MemberId,
@@ -41,6 +43,7 @@ impl<H: Hash160 + Drop> State<H> {
         asked_is_there();
         let request = self.asked(script, at, client, number)?;
         self.forged(
+            rt,
             script,
             at,
             member,
@@ -50,8 +53,9 @@ impl<H: Hash160 + Drop> State<H> {
     }
 
     /// It sends a prepare of that request's name.
-    pub(crate) fn forged_prepare(
+    pub(crate) fn forged_prepare<R: Threads>(
         self,
+        rt: &R,
         script: &Script,
         at: usize,
         member: MemberId,
@@ -66,12 +70,13 @@ impl<H: Hash160 + Drop> State<H> {
     {
         lines_fit_in_turn();
         let (state, name) = self.asked_name(script, at, client, number)?;
-        state.forged(script, at, member, to, &Message::Prepare { seq, name })
+        state.forged(rt, script, at, member, to, &Message::Prepare { seq, name })
     }
 
     /// It sends a commit of that request's name.
-    pub(crate) fn forged_commit(
+    pub(crate) fn forged_commit<R: Threads>(
         self,
+        rt: &R,
         script: &Script,
         at: usize,
         member: MemberId,
@@ -86,12 +91,13 @@ impl<H: Hash160 + Drop> State<H> {
     {
         lines_fit_in_turn();
         let (state, name) = self.asked_name(script, at, client, number)?;
-        state.forged(script, at, member, to, &Message::Commit { seq, name })
+        state.forged(rt, script, at, member, to, &Message::Commit { seq, name })
     }
 
     /// It sends a heart: that a version of a label's object has a root of this name.
-    pub(crate) fn forged_heart(
+    pub(crate) fn forged_heart<R: Threads>(
         self,
+        rt: &R,
         labels: &Labels,
         script: &Script,
         at: usize,
@@ -109,6 +115,7 @@ impl<H: Hash160 + Drop> State<H> {
         lines_fit_in_turn();
         let object = object_of(labels, label);
         self.forged(
+            rt,
             script,
             at,
             member,
@@ -122,8 +129,9 @@ impl<H: Hash160 + Drop> State<H> {
     }
 
     /// It sends any bytes.
-    pub(crate) fn forged_raw(
+    pub(crate) fn forged_raw<R: Threads>(
         self,
+        rt: &R,
         script: &Script,
         at: usize,
         member: MemberId,
@@ -135,12 +143,13 @@ impl<H: Hash160 + Drop> State<H> {
         ensures fault { IfErr result (IsClashOf H.naming (named H.naming script.now (lines_before script.now (at + 1)))) }
     {
         let bytes = bytes.clone()?;
-        self.sent(script, at, Event::Forge { member, to, bytes })
+        self.sent(rt, script, at, Event::Forge { member, to, bytes })
     }
 
     // It sends a message.
-    fn forged(
+    fn forged<R: Threads>(
         self,
+        rt: &R,
         script: &Script,
         at: usize,
         member: MemberId,
@@ -153,7 +162,7 @@ impl<H: Hash160 + Drop> State<H> {
     {
         messages_are_meant();
         let bytes = write(self.alloc, message)?;
-        self.sent(script, at, Event::Forge { member, to, bytes })
+        self.sent(rt, script, at, Event::Forge { member, to, bytes })
     }
 
     // The string of a client's request that was submitted.

@@ -41,10 +41,9 @@ pub enum End {
 /// Runs a script, and writes its text into a sink. The text of each line is built and then written
 /// before the next line is done.
 ///
-/// The condition holds of each script that a text is. The threads that a runtime may start are not
-/// used yet.
+/// The condition holds of each script that a text is.
 pub fn run<R: Threads, H: Hash160 + Drop, K: Sink>(
-    _rt: &R,
+    rt: &R,
     alloc: Global,
     script: &Script,
     hash: H,
@@ -66,7 +65,7 @@ pub fn run<R: Threads, H: Hash160 + Drop, K: Sink>(
         Err(fault) => return end_at(alloc, 0, fault, sink),
     };
     for at in 0..script.lines.len() {
-        state = match after_line(state, alloc, &labels, script, at, sink) {
+        state = match after_line(rt, state, alloc, &labels, script, at, sink) {
             Ok(state) => state,
             Err(end) => return end,
         };
@@ -75,7 +74,8 @@ pub fn run<R: Threads, H: Hash160 + Drop, K: Sink>(
 }
 
 // The state after a line whose text was taken, or how the run ends there.
-fn after_line<H: Hash160 + Drop, K: Sink>(
+fn after_line<R: Threads, H: Hash160 + Drop, K: Sink>(
+    rt: &R,
     state: State<H>,
     alloc: Global,
     labels: &Labels,
@@ -106,7 +106,7 @@ fn after_line<H: Hash160 + Drop, K: Sink>(
     let Ok(text) = line_text(&state, labels, script, at) else {
         return Err(End::Memory);
     };
-    let state = match state.after(labels, script, at) {
+    let state = match state.after(rt, labels, script, at) {
         Ok(state) => state,
         Err(fault) => return Err(end_at(alloc, number, fault, sink)),
     };

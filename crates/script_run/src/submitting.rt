@@ -17,11 +17,13 @@ use script_events::{events_come_of_lines, setups_join, submits_are_requests};
 use script_limits::lines_fit_in_turn;
 use script_requests::clauses_of;
 use script_terms::{LineClause, Script};
+use std::thread::Threads;
 
 impl<H: Hash160 + Drop> State<H> {
     /// A client sends its next request: the leaves of its guards are named, and its string.
-    pub(crate) fn submitted(
+    pub(crate) fn submitted<R: Threads>(
         self,
+        rt: &R,
         script: &Script,
         at: usize,
         client: ClientId,
@@ -56,7 +58,7 @@ impl<H: Hash160 + Drop> State<H> {
         };
         world.may_step(&event);
         let mut site = Site::of(book, world);
-        match site.step(event) {
+        match site.step(rt, event) {
             Ok(_) => Ok(State { alloc, site }),
             Err(fault) => Err(cause_of(fault)),
         }

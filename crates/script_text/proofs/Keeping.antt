@@ -13,11 +13,11 @@ use Rattle.script_terms.specs.declared.item.Placed.{Placed}
 use Rattle.script_grammar.specs.Known.{Known, known, rank}
 use Rattle.script_grammar.specs.Load.{Sent, sent_in, sent, load, is_borne, blocks, weighed, reach}
 use Rattle.script_grammar.specs.Script.{items}
-use Rattle.script_grammar.specs.Steps.{in_order, in_range, has_room}
+use Rattle.script_grammar.specs.Steps.{in_order, in_range, has_room, Fits}
 use Rattle.script_grammar.specs.Results.{◌>>=◌, where_holds}
 use Rattle.script_checks.specs.Loads.{Loaded, Stands, entry_of}
 use Rattle.script_checks.specs.Next.{next}
-use Rattle.script_text.specs.Lines.{Fits, placed_after}
+use Rattle.script_text.specs.Lines.{placed_after}
 use Rattle.script_text.specs.Stands.{StandsFor}
 use Rattle.script_text.proofs.Counting.{known_next, few_submits}
 

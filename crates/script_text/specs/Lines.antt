@@ -1,12 +1,11 @@
 -- Lines behind lines.
-use Rattle.std.specs.Prelude.{◌≡◌, ℕ, List, ◌++◌, ◌∷◌, map, true, Result, Ok}
+use Rattle.std.specs.Prelude.{ℕ, List, ◌++◌, ◌∷◌, map, Result, Ok}
 use Rattle.script_terms.specs.declared.cause.Cause.{Cause}
 use Rattle.script_terms.specs.declared.item.Item.{Item}
 use Rattle.script_terms.specs.declared.item.Placed.{Placed}
-use Rattle.script_grammar.specs.Known.{known, rank}
 use Rattle.script_grammar.specs.Results.{◌>>=◌}
 use Rattle.script_grammar.specs.Script.{items}
-use Rattle.script_grammar.specs.Steps.{spoken, counted, in_order, in_range, in_size}
+use Rattle.script_grammar.specs.Steps.{spoken, counted}
 
 -- the lines with what the words of one more say
 abbrev pub said_after : ℕ → List Placed → List (List ℕ) → Result (List Placed) Cause
@@ -15,9 +14,3 @@ said_after number earlier words = spoken (items earlier) words >>= λ found. Ok 
 -- the lines with an item, where that passes no limit
 abbrev pub placed_after : ℕ → List Placed → Item → Result (List Placed) Cause
 placed_after number earlier item = counted (items earlier) item >>= λ same. Ok (record { line = number; item = same } ∷ earlier)
-
--- an item that passed the steps before the last
-pub record Fits (earlier : List Item) (item : Item) : Type 0 where
-  pub order : in_order (known earlier).last (rank item) ≡ true
-  pub range : in_range (known earlier) item ≡ true
-  pub size : in_size item ≡ true

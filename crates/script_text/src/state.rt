@@ -3,10 +3,10 @@ ghost use Rattle.std.specs.Prelude.{◌≡◌, ◌∷◌, nat_le, [], IfOk};
 ghost use Rattle.std.specs.List.{flat_map};
 ghost use Rattle.script_grammar.specs.Known as known;
 ghost use Rattle.script_grammar.specs.Script.{items, line_after, event_in, script_by};
-ghost use Rattle.script_grammar.specs.Steps.{item_of};
+ghost use Rattle.script_grammar.specs.Steps.{item_of, Fits};
 ghost use Rattle.script_grammar.specs.Results.{Gives};
 ghost use Rattle.script_text.specs.Texts.{texts};
-ghost use Rattle.script_text.specs.Lines.{said_after, placed_after, Fits};
+ghost use Rattle.script_text.specs.Lines.{said_after, placed_after};
 
 use crate::verbs::{rank, said, verb};
 use pond_base::{Items, OutOfMemory};

@@ -5,7 +5,7 @@ use Rattle.std.specs.Fmt.{decimal}
 use Rattle.std.specs.List.{flat_map}
 use Rattle.hex.specs.Hex.{encode_lower}
 use Rattle.ring_model.specs.Messages.{Party, Member, Client, Mark}
-use Rattle.ring_mail.specs.Places.{Place}
+use Rattle.ring_model.specs.Places.{Place}
 use Rattle.pond_base.specs.declared.numbers.ClientId.{ClientId}
 use Rattle.pond_base.specs.declared.numbers.MemberId.{MemberId}
 use Rattle.guarded_update.specs.declared.request.Request.{Request}

@@ -10,11 +10,11 @@ use Rattle.ring_model.specs.Messages.{Ring, Message, PrePrepare, Prepare, Commit
 use Rattle.ring_model.specs.World.{World, Event, world}
 use Rattle.ring_model.specs.World as model
 use Rattle.message_model.specs.Meaning.{who, meaning}
-use Rattle.fold_model.specs.Folds.{Manifest}
+use Rattle.fold_model.specs.Folds.{Archiving}
 use Rattle.fold_model.specs.Rings.{ring_of}
-use Rattle.ring_mail.specs.Places.{Place}
-use Rattle.ring_world.specs.Deliveries.{pending}
-use Rattle.ring_world.specs.Skipping.{Told, stands_at, touches}
+use Rattle.ring_model.specs.Places.{Place}
+use Rattle.ring_model.specs.Deliveries.{pending}
+use Rattle.message_model.specs.Told.{Told, stands_at, touches}
 use Rattle.script_terms.specs.declared.line.Line.{Line}
 use Rattle.script_terms.specs.declared.line.Line.TheVariants.{Submit, Resubmit, Deliver, Lose, Settle, Mute, Unmute, ForgeOrder, ForgePrepare, ForgeCommit, ForgeHeart, ForgeRaw}
 use Rattle.script_terms.specs.declared.script.Script.{Script}
@@ -24,13 +24,13 @@ use Rattle.text_model.specs.Requests.{Numbered, next_request, submitted}
 abbrev pub is_declared_faulty : Script → ℕ → Bool
 is_declared_faulty script number = list_any (λ (member : MemberId). member.0 == number) script.setup.faulty
 
--- nothing is archived yet, so all manifests are alike
-abbrev pub no_manifest : Manifest
-no_manifest object versions = []
+-- nothing is archived yet, so all manifests are alike, and there are no fragments
+abbrev pub no_archives : Archiving
+no_archives = record { manifest = λ object versions. []; fragments = λ object versions. [] }
 
 -- the ring of a script
 abbrev pub ring_for : (List ℕ → List ℕ) → Script → Ring
-ring_for h script = ring_of script.setup.f script.setup.clients (is_declared_faulty script) h script.setup.block no_manifest
+ring_for h script = ring_of script.setup.f script.setup.clients (is_declared_faulty script) h script.setup.block no_archives
 
 -- the muted parties after a line, in the order in which they were muted
 abbrev pub muted_by : List Party → Line → List Party

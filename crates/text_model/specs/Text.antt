@@ -3,7 +3,7 @@ use Rattle.std.specs.Prelude.{ℕ, List, [], ◌∷◌, ◌++◌, if◌then◌el
 use Rattle.std.specs.Fmt.{decimal}
 use Rattle.circular_buffer.specs.Buffer.{keep_last}
 use Rattle.pond_base.specs.declared.numbers.MemberId.{MemberId}
-use Rattle.ring_world.specs.Deliveries.{deliveries}
+use Rattle.ring_model.specs.Deliveries.{deliveries}
 use Rattle.object_model.specs.Folds.{versions_after}
 use Rattle.script_terms.specs.declared.line.Line.{Line}
 use Rattle.script_terms.specs.declared.line.Line.TheVariants.{Read, ShowMember, ShowClient, ShowVersion, ShowRecent}

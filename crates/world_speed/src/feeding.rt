@@ -6,6 +6,7 @@ use pond_base::{ClientId, Items, Label, MemberId};
 use pond_world::Site;
 use ring_world::Event;
 use std::alloc::Global;
+use std::thread::Threads;
 
 /// What became of the requests that were handed in.
 #[derive(Clone, Copy, Debug)]
@@ -42,21 +43,26 @@ fn append(alloc: Global, client: u8, label: &[u8]) -> Option<Event> {
 }
 
 /// Does the next event.
-fn step(site: &mut Site<Sha1Hash>, event: Event) -> Option<()> {
+fn step<R: Threads>(rt: &R, site: &mut Site<Sha1Hash>, event: Event) -> Option<()> {
     if !site.world().may(&event) {
         return None;
     }
-    site.step(event).ok()?;
+    site.step(rt, event).ok()?;
     Some(())
 }
 
 /// Hands in so many requests of sixteen clients in turn.
-fn submit(alloc: Global, site: &mut Site<Sha1Hash>, requests: u32) -> Option<()> {
+fn submit<R: Threads>(
+    rt: &R,
+    alloc: Global,
+    site: &mut Site<Sha1Hash>,
+    requests: u32,
+) -> Option<()> {
     let labels = [b"a", b"b", b"c", b"d", b"e", b"f", b"g", b"h"];
     for count in 0..requests {
         let label = labels[(count % 8) as usize];
         let event = append(alloc, (count % 16) as u8, label)?;
-        step(site, event)?;
+        step(rt, site, event)?;
     }
     Some(())
 }
@@ -85,10 +91,10 @@ fn fewest(site: &Site<Sha1Hash>) -> Option<u32> {
 }
 
 /// Hands so many requests to a ring of ten members, and then all that they cause.
-pub fn feed(alloc: Global, requests: u32) -> Option<Fed> {
+pub fn feed<R: Threads>(rt: &R, alloc: Global, requests: u32) -> Option<Fed> {
     let mut site = open(alloc)?;
-    submit(alloc, &mut site, requests)?;
-    let deliveries = site.settle().ok()?;
+    submit(rt, alloc, &mut site, requests)?;
+    let deliveries = site.settle(rt).ok()?;
     Some(Fed {
         requests,
         deliveries,

@@ -17,7 +17,7 @@ fn main(rt: HostRuntime) -> io::Result<()> {
     for arg in env::args(&rt)?.skip(1) {
         timed = timed || arg.as_str() == "time";
     }
-    let Some(fed) = feed(alloc, 1_024) else {
+    let Some(fed) = feed(&rt, alloc, 1_024) else {
         return Err(io::Error::from(io::ErrorKind::OutOfMemory));
     };
     println!(rt;

@@ -6,7 +6,7 @@ use Rattle.ring_message.specs.declared.message.Out.{Out}
 use Rattle.ring_model.specs.Messages.{Packet, Member, Client}
 use Rattle.ring_model.proofs.History.{Each-append}
 use Rattle.message_model.specs.Meaning.{who, packet, meaning}
-use Rattle.ring_node.specs.Naming.{IsSeat}
+use Rattle.ring_model.specs.Seats.{IsSeat}
 use Rattle.pond_node.specs.Answers.{AreSeated}
 use Rattle.pond_node.proofs.answering.send_to_clients.Goals as goal
 

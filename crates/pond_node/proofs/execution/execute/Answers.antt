@@ -57,7 +57,7 @@ returns-clause-done g c = λ block before asked of.
     (one_done g.H.Hash160.naming block before c.args.string.now c.in-Some.request read.0 read.1 c.args.objects.now c.execute.new.self c.args.outcomes.now c.in-Ok.outcome of c.in-Ok.ensures.outcome c.in-Ok.ensures.after)
 
 pub returns-clause-sent : goal.returns-clause-sent
-returns-clause-sent g c = λ block before asked of g' namings i ring folds clients.
+returns-clause-sent g c = λ block before asked of g' i ring folds clients.
     let h = g.H.Hash160.naming in
     let read = spelled_by c.args.string.now c.in_ok-request.field-0 c.in-Some.request c.in-Some.is c.in_ok-request.ensures.read in
     let r = c.in-Some.request in
@@ -67,7 +67,7 @@ returns-clause-sent g c = λ block before asked of g' namings i ring folds clien
     c.in-Ok-tell.ensures.sent g' i clients
     ∙ ap (λ xs. xs ++ beats) (c.in_ok-reply.ensures.sent i)
     ∙ append_assoc sent (replied ∷ []) beats
-    ∙ ap (λ xs. sent ++ xs) (sym (answers_are h block before c.args.string.now r read.0 read.1 g' namings i c.in-Ok.outcome ring folds (c.in-Ok.ensures.outcome block (requests_of before) of.after)))
+    ∙ ap (λ xs. sent ++ xs) (sym (answers_are h block before c.args.string.now r read.0 read.1 g' i c.in-Ok.outcome ring folds (c.in-Ok.ensures.outcome block (requests_of before) of.after)))
 
 pub returns-clause-known : goal.returns-clause-known
 returns-clause-known g c = known_still g.H.Hash160.naming c.execute.new.book.held c.tell.new.book.held c.execute.new.self c.tell.ensures.grew.kept c.in-Ok.ensures.known

@@ -23,7 +23,7 @@ loop-id-preserved g c =
     let h = g.H.Hash160.naming in
     let setup = c.args.setup.now in
     one_made h setup c.args.book.now.held c.loop-id.book.held c.new.new.book.held c.loop-id.nodes.items c.push.new.self.items c.in-Ok.node c.loop-id.id (omega (arith, c.requires.least)) c.loop-id.invariant c.in-Ok-push.ensures.items
-    (λ manifest. c.in-Ok.ensures.stands _ _ (ring_is_read setup.f setup.clients (is_among setup.faulty) h setup.block manifest) refl refl refl
+    (λ archiving. c.in-Ok.ensures.stands _ (ring_is_read setup.f setup.clients (is_among setup.faulty) h setup.block archiving) refl refl refl
     (record { outcomes = λ strings. refl; hearts = λ strings. refl; named = λ strings. refl }))
     c.in-Ok.ensures.known c.in-Ok.ensures.held c.in-Ok.ensures.all c.in-Ok.ensures.grew
 

@@ -1,7 +1,6 @@
 use Rattle.std.proofs.Common.{[], Contains, refl, sym, ◌∙◌, ◌+◌, ◌*◌, arith}
 use Rattle.block_names.proofs.Clashed.{named_apart, clash_among}
 use Rattle.object_model.specs.Trees.{version_strings}
-use Rattle.fold_model.specs.Folds.{namings_by}
 use Rattle.pond_node.specs.Standing as node
 use Rattle.pond_world.specs.Setups.{ring_by}
 use Rattle.pond_world.proofs.Flags.{one_is_down, count_flags, flag_at}
@@ -15,14 +14,14 @@ pub new-requires-clause-correct : goal.new-requires-clause-correct
 new-requires-clause-correct g c = one_is_down c.args.setup.now.faulty c.in-Ok-flags_of.faulty.items (3 * c.args.setup.now.f + 1) c.in-Ok-flags_of.ensures (omega (arith, c.requires.few_faulty))
 
 pub returns-in-Ok-new-clause-stands : goal.returns-in-Ok-new-clause-stands
-returns-in-Ok-new-clause-stands g c = λ manifest.
+returns-in-Ok-new-clause-stands g c = λ archiving.
     let setup = c.args.setup.now in
-    c.in-Ok-new.ensures.stands (ring_by g.H.Hash160.naming setup manifest) (namings_by g.H.Hash160.naming setup.block)
+    c.in-Ok-new.ensures.stands (ring_by g.H.Hash160.naming setup archiving)
     (record {
       small = record { few = c.requires.few; few_clients = c.requires.few_clients; slots = refl };
       count = c.in-Ok.ensures.count;
       faulty_are = λ i d low. flag_at setup.faulty c.in-Ok-flags_of.faulty.items (3 * setup.f + 1) i d c.in-Ok-flags_of.ensures low;
-      nodes_stand = λ i d low correct. c.in-Ok.ensures.stand manifest i d (omega (arith, low, c.in-Ok.ensures.count));
+      nodes_stand = λ i d low correct. c.in-Ok.ensures.stand archiving i d (omega (arith, low, c.in-Ok.ensures.count));
       clients_are = refl;
     })
 

@@ -1,7 +1,7 @@
 use Rattle.std.proofs.Common.{◌≡◌, List, map, take, ◌++◌}
 use Rattle.ring_model.specs.Messages.{Packet}
 use Rattle.message_model.specs.Meaning.{who}
-use Rattle.ring_mail.specs.Places.{Place}
+use Rattle.ring_model.specs.Places.{Place}
 use Rattle.ring_mail.specs.Mails.{IsMail}
 use Rattle.ring_mail.specs.Skips.{skips}
 use Rattle.ring_world.specs.Deliveries.{packet_from}

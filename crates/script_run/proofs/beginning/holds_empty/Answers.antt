@@ -5,8 +5,7 @@ use Rattle.pond_node.specs.Standing as node
 use Rattle.pond_node.specs.Standing.{NodeStands}
 use Rattle.ring_world.specs.declared.state.World.{World}
 use Rattle.ring_world.specs.Worlds.{WorldStands, IsKnown}
-use Rattle.text_model.specs.Events.{ring_for, is_declared_faulty, no_manifest}
-use Rattle.script_run.specs.States.{namings_for}
+use Rattle.text_model.specs.Events.{ring_for, is_declared_faulty, no_archives}
 use Rattle.script_run.proofs.Opening.{empty_held}
 use Rattle.script_run.proofs.beginning.holds_empty.Goals as goal
 
@@ -14,10 +13,8 @@ pub returns : goal.returns
 returns g c = λ stands within.
     let h = g.H.Hash160.naming in
     let script = c.args.script.now in
-    let here : WorldStands NodeStands (ring_for h script) (namings_for h script) c.world.result.now [] =
-    subst (λ (w : World Node). WorldStands NodeStands (ring_for h script) (namings_for h script) w []) (sym c.world.ensures.world) stands in
-    let known : IsKnown node.IsKnown h c.args.site.now.held c.args.site.now.world =
-    subst (λ (w : World Node). IsKnown node.IsKnown h c.args.site.now.held w) c.world.ensures.world (c.world.ensures.known here.is.going) in
-    let found = c.committed.ensures.chosen (ring_for h script) (namings_for h script) [] here in
-    empty_held h script c.args.site.now found.0 c.committed.result.now one_block (omega (arith, within.setup.most))
-    (c.ring_folds.ensures script.setup.f script.setup.clients (is_declared_faulty script) h script.setup.block no_manifest) known stands found.1
+    let here : WorldStands NodeStands (ring_for h script) c.world.result.now [] =
+    subst (λ (w : World Node). WorldStands NodeStands (ring_for h script) w []) (sym c.world.ensures.world) stands in
+    let found = c.committed.ensures.chosen (ring_for h script) [] here in
+    empty_held h script c.args.site.now.held found.0 _ c.committed.result.now one_block (omega (arith, within.setup.most))
+    (c.ring_folds.ensures script.setup.f script.setup.clients (is_declared_faulty script) h script.setup.block no_archives) (c.committed.ensures.known h c.args.site.now.held (c.world.ensures.known here.is.going)) found.2

@@ -1,7 +1,7 @@
 use Rattle.std.proofs.Common.{string_bytes, filter, ◌==◌}
 use Rattle.script_terms.specs.declared.line.Line.TheVariants.{ShowClient}
 use Rattle.text_model.specs.Events.{ring_for, events_of, world_of}
-use Rattle.script_run.specs.States.{lines_before, namings_for}
+use Rattle.script_run.specs.States.{lines_before}
 use Rattle.script_run.proofs.Turns.{turn_fits}
 use Rattle.script_run.proofs.Believing.{client_here, requests_counted, client_told}
 use Rattle.ring_world.specs.Skipping.{skips as skips_of}
@@ -24,5 +24,5 @@ returns g c =
     let events = events_of h script lines in
     let turn = c.requires.turn in
     let own = filter (λ text. ring.owner text == a.client.0) (world_of h script lines).submits in
-    client_told string_bytes c.client_text.result h script lines a.client c.client-known.result.now a.labels.now.entries own (c.client-known.ensures.stands ring (namings_for h script) events turn.stands.stands) c.requires.labels
+    client_told string_bytes c.client_text.result h script lines a.client c.client-known.result.now a.labels.now.entries own (c.client-known.ensures.stands ring events turn.stands.stands) c.requires.labels
     (requests_counted c.submits_are_requests.ensures.counts h script lines a.state.now.site (skips_of a.state.now.site.world) a.client turn.stands) c.client_text.ensures

@@ -3,7 +3,7 @@ use Rattle.ring_model.specs.Messages.{Member}
 use Rattle.ring_model.specs.Member.{executed}
 use Rattle.pond_node.specs.Standing.{NodeStands}
 use Rattle.text_model.specs.Events.{ring_for, events_of, world_of, is_declared_faulty}
-use Rattle.script_run.specs.States.{lines_before, namings_for}
+use Rattle.script_run.specs.States.{lines_before}
 use Rattle.script_run.proofs.Shown.{all_spelled, member_faulty, member_here, member_told, world_is}
 use Rattle.ring_world.specs.Skipping.{skips as skips_of}
 use Rattle.script_run.proofs.printing.member_text.Goals as goal
@@ -17,14 +17,13 @@ returns-in-Some g c =
     let turn = c.requires in
     let lines = lines_before script at in
     let ring = ring_for h script in
-    let namings = namings_for h script in
     let events = events_of h script lines in
     let got = (world_of h script lines).got (Member member.0) in
     let stands = world_is h script lines c.args.state.now.site (skips_of c.args.state.now.site.world) c.world.result.now turn.stands c.world.ensures.world in
     let here = member_here c.lines_fit_in_turn.ensures.turn h script at member c.args.state.now.site (skips_of c.args.state.now.site.world) turn in
-    let correct : true ≡ not (is_declared_faulty script member.0) = sym (ap is_some c.in-Some.is) ∙ c.node.ensures.there ring namings events stands here in
-    let node : NodeStands c.in-Some.node.now ring namings member.0 got = c.in-Some.ensures.stands ring namings events stands here in
-    let spelled = all_spelled c.submits_are_requests.ensures.strings h script lines (executed ring got) turn.stands.requests (c.node.ensures.submitted ring namings events stands) in
+    let correct : true ≡ not (is_declared_faulty script member.0) = sym (ap is_some c.in-Some.is) ∙ c.node.ensures.there ring events stands here in
+    let node : NodeStands c.in-Some.node.now ring member.0 got ((world_of h script lines).archived member.0) = c.in-Some.ensures.stands ring events stands here in
+    let spelled = all_spelled c.submits_are_requests.ensures.strings h script lines (executed ring got) turn.stands.requests (c.node.ensures.submitted ring events stands) in
     member_told string_bytes c.member_text.result h script lines member c.in-Some.node.now c.ring_folds.ensures turn.within correct node spelled c.member_text.ensures
 
 pub returns-in-None : goal.returns-in-None
@@ -38,5 +37,5 @@ returns-in-None g c =
     let ring = ring_for h script in
     let stands = world_is h script lines c.args.state.now.site (skips_of c.args.state.now.site.world) c.world.result.now turn.stands c.world.ensures.world in
     let here = member_here c.lines_fit_in_turn.ensures.turn h script at member c.args.state.now.site (skips_of c.args.state.now.site.world) turn in
-    let faulty : false ≡ not (is_declared_faulty script member.0) = sym (ap is_some c.in-None.is) ∙ c.node.ensures.there ring (namings_for h script) (events_of h script lines) stands here in
+    let faulty : false ≡ not (is_declared_faulty script member.0) = sym (ap is_some c.in-None.is) ∙ c.node.ensures.there ring (events_of h script lines) stands here in
     member_faulty string_bytes c.faulty_text.result h script lines member faulty c.faulty_text.ensures

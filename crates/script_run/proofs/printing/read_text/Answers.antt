@@ -6,7 +6,7 @@ use Rattle.script_terms.specs.declared.line.Line.TheVariants.{Read}
 use Rattle.text_model.specs.Events.{ring_for, events_of}
 use Rattle.text_model.specs.Executed.{committed_requests}
 use Rattle.text_model.specs.Believed.{letters_of}
-use Rattle.script_run.specs.States.{lines_before, namings_for}
+use Rattle.script_run.specs.States.{lines_before}
 use Rattle.script_run.proofs.Shown.{committed_after, world_is}
 use Rattle.script_run.proofs.Turns.{turn_fits}
 use Rattle.script_run.proofs.Labelled.{name_here, one_name}
@@ -38,9 +38,9 @@ returns g c =
     let stands = world_is h script lines a.state.now.site (skips_of a.state.now.site.world) c.world.result.now turn.stands c.world.ensures.world in
     let after : AreAfter h script.setup.block (committed_requests h script lines) c.objects-objects.result.now =
     committed_after c.ring_folds.ensures h script lines c.committed.result.now c.objects-objects.result.now turn.within c.objects-objects.ensures.after
-    (c.committed.ensures.chosen ring (namings_for h script) events stands) in
+    (c.committed.ensures.chosen ring events stands) in
     let named = name_here h a.labels.now.entries script.lines a.at _ a.label.now c.requires.labels turn.here (there_first a.label.now []) in
     let same = one_name a.labels.now.entries a.label.now c.object_of.result (object_name h a.label.now) c.object_of.ensures named in
-    let believed = c.hearts-hearts.ensures ring a.client.0 _ (letters_of h script lines a.client) (c.client.ensures.stands ring (namings_for h script) events turn.stands.stands) in
+    let believed = c.hearts-hearts.ensures ring a.client.0 _ (letters_of h script lines a.client) (c.client.ensures.stands ring events turn.stands.stands) in
     let heart = heart_is h script lines a.client a.label.now c.object_of.result c.hearts-hearts.result.now c.newest-heart.result same believed c.newest-heart.ensures in
     read_told string_bytes c.read_text.result h script lines a.client a.label.now c.objects-objects.result.now c.newest-heart.result after heart c.read_text.ensures

@@ -6,7 +6,7 @@ use Rattle.tree_format.specs.declared.root.Root.{Root}
 use Rattle.object_model.specs.Folds.{versions_after}
 use Rattle.ring_message.specs.declared.outcome.Outcome.TheVariants as told
 use Rattle.object_fold.specs.Choice.{refusal_of}
-use Rattle.object_fold.specs.Executed.{strings_of_effect, outcome_of}
+use Rattle.object_model.specs.Outcomes.{strings_of_effect, outcome_of}
 use Rattle.object_fold.proofs.Execution.{again_after, refused_effect, refused_after, refused_known, tree_known, has_room, edits_known, next_strings, next_counted, made_outcome, made_after, made_known}
 use Rattle.object_fold.proofs.objects.Objects.execute.Goals as goal
 

@@ -1,4 +1,4 @@
-use Rattle.std.proofs.Common.{arith}
+use Rattle.std.proofs.Common.{◌∙◌, arith}
 use Rattle.pond_node.proofs.Running.{running_starts, running_on, slot_grew, slot_clash, all_done, all_sent, all_kept, all_known}
 use Rattle.pond_node.proofs.node.Node.execute_new.Goals as goal
 
@@ -25,7 +25,7 @@ pub loop-place-preserved : goal.loop-place-preserved
 loop-place-preserved g c =
     running_on g.H.Hash160.naming c.args.self.now c.args.book.now.held c.args.out.now.items c.loop-place.place c.loop-place.self c.loop-place.book.held c.loop-place.out.items c.loop-place.invariant
     c.len-first.result c.executed-last.result c.len-first.ensures c.executed-last.ensures c.loop-place.auto.place c.loop-place-test.true _ (omega arith) c.execute_next.new.self c.execute_next.new.book.held c.execute_next.new.out.items
-    c.in-Ok.ensures.done c.in-Ok.ensures.sent c.in-Ok.ensures.seats c.in-Ok.ensures.known c.in-Ok.ensures.one c.in-Ok.ensures.held c.in-Ok.ensures.all c.execute_next.ensures.grew c.execute_next.ensures.keeps
+    c.in-Ok.ensures.done c.in-Ok.ensures.sent c.in-Ok.ensures.seats c.in-Ok.ensures.known c.in-Ok.ensures.one c.in-Ok.ensures.held c.in-Ok.ensures.all c.execute_next.ensures.grew c.execute_next.ensures.keeps c.execute_next.ensures.archived
 
 pub returns-clause-done : goal.returns-clause-done
 returns-clause-done g c =
@@ -61,3 +61,9 @@ returns-in-Err-clause-keeps g c = λ name string is. c.execute_next.ensures.keep
 
 pub returns-clause-keeps : goal.returns-clause-keeps
 returns-clause-keeps g c = c.loop-place.invariant.keeps
+
+pub returns-clause-archived : goal.returns-clause-archived
+returns-clause-archived g c = c.loop-place.invariant.still
+
+pub returns-in-Err-clause-archived : goal.returns-in-Err-clause-archived
+returns-in-Err-clause-archived g c = c.execute_next.ensures.archived ∙ c.loop-place.invariant.still

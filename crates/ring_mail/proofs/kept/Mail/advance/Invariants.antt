@@ -1,6 +1,6 @@
 use Rattle.std.proofs.Common.{◌≡◌, List, ◌-◌, length}
 use Rattle.ring_model.specs.Messages.{Packet}
-use Rattle.ring_mail.specs.Places.{Place}
+use Rattle.ring_model.specs.Places.{Place}
 use Rattle.ring_mail.specs.Mails.{IsMail}
 use Rattle.ring_mail.proofs.kept.Mail.advance.Given as goal
 

@@ -1,5 +1,5 @@
 use Rattle.std.proofs.Common.{◌++◌, ◌∙◌, sym, ap, subst, Vec, slice_get}
-use Rattle.ring_mail.specs.Places.{delivery}
+use Rattle.ring_model.specs.Places.{delivery}
 use Rattle.std.specs.declared.alloc.Global.{Global}
 use Rattle.ring_mail.specs.declared.kept.Kept.{Kept}
 use Rattle.message_model.specs.Meaning.{who}

@@ -1,6 +1,6 @@
 use Rattle.std.proofs.Common.{◌||◌, ◌∙◌, ap, slice_get, slice_set}
 use Rattle.message_model.specs.Meaning.{who}
-use Rattle.ring_mail.specs.Places.{is_done, same_place}
+use Rattle.ring_model.specs.Places.{is_done, same_place}
 use Rattle.ring_mail.specs.Skips.{has_lost}
 use Rattle.ring_mail.specs.Mails.{number_of}
 use Rattle.ring_mail.proofs.Mailing.{passed, or_last}

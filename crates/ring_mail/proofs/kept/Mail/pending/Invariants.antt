@@ -1,6 +1,6 @@
 use Rattle.std.proofs.Common.{◌≡◌, List, find, drop, not}
 use Rattle.ring_model.specs.Messages.{Packet}
-use Rattle.ring_mail.specs.Places.{Place, places, is_done}
+use Rattle.ring_model.specs.Places.{Place, places, is_done}
 use Rattle.ring_mail.specs.Mails.{IsMail}
 use Rattle.ring_mail.proofs.kept.Mail.pending.Given as goal
 

@@ -2,7 +2,7 @@ use Rattle.script_run.proofs.Passed.{muted_next, declared_seat}
 use Rattle.script_run.proofs.Turns.{turn_fits}
 use Rattle.script_terms.specs.declared.line.Line.TheVariants.{Mute}
 use Rattle.text_model.specs.Events.{ring_for, events_of}
-use Rattle.script_run.specs.States.{lines_before, namings_for}
+use Rattle.script_run.specs.States.{lines_before}
 use Rattle.ring_world.specs.Skipping.{skips as skips_of}
 use Rattle.script_run.proofs.state.State.muted.Goals as goal
 
@@ -16,4 +16,4 @@ returns g c =
     let h = g.H.Hash160.naming in
     let script = c.args.script.now in
     muted_next h script c.args.at c.args.party c.args.self.site c.mute.new.self (skips_of c.args.self.site.world) (skips_of c.mute.new.self.world) c.requires c.mute.ensures.held
-    (c.in_ok-mute.ensures.stands (ring_for h script) (namings_for h script) (events_of h script (lines_before script c.args.at)) c.requires.stands.stands) c.in_ok-mute.ensures.muted c.in_ok-mute.ensures.lost
+    (c.in_ok-mute.ensures.stands (ring_for h script) (events_of h script (lines_before script c.args.at)) c.requires.stands.stands) c.in_ok-mute.ensures.muted c.in_ok-mute.ensures.lost

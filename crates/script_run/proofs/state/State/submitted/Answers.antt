@@ -18,7 +18,7 @@ use Rattle.tree_format.specs.Strings.{label_string}
 use Rattle.pond_node.specs.declared.node.Node.{Node}
 use Rattle.ring_mail.specs.Skips.{Skips}
 use Rattle.ring_world.specs.declared.state.World.{World}
-use Rattle.script_run.specs.States.{StandsNext, lines_before, namings_for}
+use Rattle.script_run.specs.States.{StandsNext, lines_before}
 use Rattle.script_run.proofs.Requesting.{counted, few_counted, next_fits, next_is, submits, stands_same, stands_next, second_held}
 use Rattle.script_run.proofs.Submitted.{leaves_clash, request_clash, submitted_next}
 use Rattle.script_run.proofs.Turns.{turn_fits}
@@ -71,7 +71,7 @@ step-requires g c =
     let line : Line = Submit a.client a.label a.clauses.now in
     let e : Event = event.Submit a.client a.label (record { clauses = c.in_ok-clauses.clauses }) in
     subst (λ w. IsStep w e) (sym c.of-site.ensures.world)
-    (c.may_step.ensures (ring_for h a.script.now) (namings_for h a.script.now) (events_of h a.script.now earlier) (stands_same h a.script.now a.at line a.self.site (skips_of a.self.site.world) c.into_parts-book.result.1 c.requires c.into_parts-book.ensures.world) now.may_step)
+    (c.may_step.ensures (ring_for h a.script.now) (events_of h a.script.now earlier) (stands_same h a.script.now a.at line a.self.site (skips_of a.self.site.world) c.into_parts-book.result.1 c.requires c.into_parts-book.ensures.world) now.may_step)
 
 pub returns-in-Err-clause-fault : goal.returns-in-Err-clause-fault
 returns-in-Err-clause-fault g c =
@@ -89,8 +89,8 @@ returns-in-Err-clause-fault g c =
     let strings = label_string a.label ∷ request_string (next_request h (submitted h earlier) a.client a.label a.clauses.now) ∷ [] in
     let events = events_of h a.script.now earlier in
     let left = c.step.new.self.held in
-    let clash = named_clash h left _ c.cause_of.result c.in-Err.fault c.cause_of.ensures (c.in-Err.ensures.fault (ring_for h a.script.now) (namings_for h a.script.now) events ring stood now.may_happen) in
-    let more = c.step.ensures.grew (ring_for h a.script.now) (namings_for h a.script.now) events ring stood now.may_happen in
+    let clash = named_clash h left _ c.cause_of.result c.in-Err.fault c.cause_of.ensures (c.in-Err.ensures.fault (ring_for h a.script.now) events ring stood now.may_happen) in
+    let more = c.step.ensures.grew (ring_for h a.script.now) events ring stood now.may_happen in
     request_clash h a.script.now a.at a.client a.label a.clauses.now a.self.site (skips_of a.self.site.world) c.clauses_of.new.book.held c.cause_of.result c.requires grew
     (subst (λ held. IsClashAfter h held (Contains strings) c.cause_of.result) c.of-site.ensures.held
     (subst (λ ss. IsClashAfter h c.of-site.result.held (Contains ss) c.cause_of.result) now.names (left, more, clash)))
@@ -114,9 +114,9 @@ returns-in-Ok-clause-stands g c =
     let same : skips_of left.world ≡ skips_of a.self.site.world = c.step.ensures.skips ∙ ap (λ (w : World Node). skips_of w) (c.of-site.ensures.world ∙ c.into_parts-book.ensures.world) in
     subst (λ (skips : Skips). StandsNext h a.script.now a.at left skips) (sym same)
     (submitted_next h a.script.now a.at a.client a.label a.clauses.now a.self.site (skips_of a.self.site.world) c.clauses_of.new.book.held left c.requires
-    (stands_next fit.turn c.events_come_of_lines.ensures h a.script.now a.at line e a.self.site (skips_of a.self.site.world) left.world c.requires now.is_event (c.in-Ok.ensures.stands (ring_for h a.script.now) (namings_for h a.script.now) (events_of h a.script.now earlier) ring stood now.may_happen))
+    (stands_next fit.turn c.events_come_of_lines.ensures h a.script.now a.at line e a.self.site (skips_of a.self.site.world) left.world c.requires now.is_event (c.in-Ok.ensures.stands (ring_for h a.script.now) (events_of h a.script.now earlier) ring stood now.may_happen))
     grew c.in_ok-clauses.ensures.holds
     (subst (λ held. Grew h held (Contains (label_string a.label ∷ request_string next ∷ [])) left.held) c.of-site.ensures.held
-    (subst (λ strings. Grew h c.of-site.result.held (Contains strings) left.held) now.names (c.step.ensures.grew (ring_for h a.script.now) (namings_for h a.script.now) (events_of h a.script.now earlier) ring stood now.may_happen)))
-    (second_held h (label_string a.label) (request_string next) _ c.of-site.result.held left.held now.names (c.in-Ok.ensures.held (ring_for h a.script.now) (namings_for h a.script.now) (events_of h a.script.now earlier) ring stood now.may_happen))
+    (subst (λ strings. Grew h c.of-site.result.held (Contains strings) left.held) now.names (c.step.ensures.grew (ring_for h a.script.now) (events_of h a.script.now earlier) ring stood now.may_happen)))
+    (second_held h (label_string a.label) (request_string next) _ c.of-site.result.held left.held now.names (c.in-Ok.ensures.held (ring_for h a.script.now) (events_of h a.script.now earlier) ring stood now.may_happen))
     now.request)

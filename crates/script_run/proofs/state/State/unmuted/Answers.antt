@@ -2,7 +2,7 @@ use Rattle.script_run.proofs.Passed.{unmuted_next, declared_seat}
 use Rattle.script_run.proofs.Turns.{turn_fits}
 use Rattle.script_terms.specs.declared.line.Line.TheVariants.{Unmute}
 use Rattle.text_model.specs.Events.{ring_for, events_of}
-use Rattle.script_run.specs.States.{lines_before, namings_for}
+use Rattle.script_run.specs.States.{lines_before}
 use Rattle.ring_world.specs.Skipping.{skips as skips_of}
 use Rattle.script_run.proofs.state.State.unmuted.Goals as goal
 
@@ -16,4 +16,4 @@ returns g c =
     let h = g.H.Hash160.naming in
     let script = c.args.script.now in
     unmuted_next h script c.args.at c.args.party c.args.self.site c.unmute.new.self (skips_of c.args.self.site.world) (skips_of c.unmute.new.self.world) c.requires c.unmute.ensures.held
-    (c.in_ok-unmute.ensures.stands (ring_for h script) (namings_for h script) (events_of h script (lines_before script c.args.at)) c.requires.stands.stands) c.in_ok-unmute.ensures.muted c.in_ok-unmute.ensures.lost
+    (c.in_ok-unmute.ensures.stands (ring_for h script) (events_of h script (lines_before script c.args.at)) c.requires.stands.stands) c.in_ok-unmute.ensures.muted c.in_ok-unmute.ensures.lost

@@ -1,7 +1,7 @@
 use Rattle.std.proofs.Common.{refl, reverse}
 use Rattle.std.proofs.lemmas.List.{reverse-append}
 use Rattle.script_grammar.specs.Script.{items}
-use Rattle.script_text.specs.Lines.{Fits}
+use Rattle.script_grammar.specs.Steps.{Fits}
 use Rattle.script_text.proofs.Keeping.{Counted, keeps, gives, overfull, few_entries, range_is, few_are_sent}
 use Rattle.script_text.proofs.state.State.with.Goals as goal
 
