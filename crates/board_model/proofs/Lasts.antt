@@ -1,7 +1,6 @@
 -- The last entry of a label.
-use Rattle.std.proofs.Common.{◌≡◌, ◌≢◌, ◌↔◌, ◌⊎◌, ℕ, Bool, true, false, cond, List, [], ◌∷◌, ◌++◌, Option, Some, None, All, filter, refl, ap, sym, ◌∙◌, subst, inl, inr, ⊎_elim}
+use Rattle.std.proofs.Common.{◌≡◌, ◌≢◌, ◌↔◌, ◌⊎◌, ℕ, Bool, true, false, cond, List, [], ◌∷◌, ◌++◌, Option, Some, None, filter, refl, ap, sym, ◌∙◌, subst, inl, inr, ⊎_elim}
 use Rattle.std.specs.List.{last_or}
-use Rattle.std.specs.Str.{bytes_eq}
 use Rattle.std.proofs.lemmas.List.Elements.{filter-append, All-nil, All-cons, All-head, All-tail}
 use Rattle.std.proofs.lemmas.Slice.Eq.{bytes_eq-Decides}
 use Rattle.board_model.specs.Boards.{Entry, is_of, last_of}
@@ -30,9 +29,9 @@ last_more label list entry =
 -- an entry whose label is another one is not of the label
 is_not : (label : List ℕ) (e : Entry) → Apart label e → is_of label e ≡ false
 is_not label e apart = elim (is_of label e) as (λ b. is_of label e ≡ b → b ≡ false) [
-      | true ↦ λ t. absurd (apart ((bytes_eq-Decides e.label label).0 t))
-      | false ↦ λ t. refl
-    ] refl
+  | true ↦ λ t. absurd (apart ((bytes_eq-Decides e.label label).0 t))
+  | false ↦ λ t. refl
+] refl
 
 apart_of : (label : List ℕ) (e : Entry) → is_of label e ≡ false → Apart label e
 apart_of label e f same = absurd (cc (f, (bytes_eq-Decides e.label label).1 same))
@@ -63,13 +62,13 @@ first label x list entry is e none =
 found : (label : List ℕ) (list : List Entry) (o : Option Entry) (entry : Entry) → last_or o (filter (is_of label) list) ≡ Some entry → Found label list o entry
 found label [] o entry e = inr (e, All-nil (Apart label))
 found label (x ∷ list) o entry e = elim (is_of label x) as (λ b. is_of label x ≡ b → Found label (x ∷ list) o entry) [
-      | true ↦ λ t. ⊎_elim (λ l. inl (later label x list entry l))
-        (λ (r : (Some x ≡ Some entry) × HasNone label list). inl (first label x list entry ((bytes_eq-Decides x.label label).0 t) r.0 r.1))
-        (found label list (Some x) entry (sym (front label x list o true t) ∙ e))
-      | false ↦ λ t. ⊎_elim (λ l. inl (later label x list entry l))
-        (λ (r : (o ≡ Some entry) × HasNone label list). inr (r.0, All-cons (Apart label) x list (apart_of label x t) r.1))
-        (found label list o entry (sym (front label x list o false t) ∙ e))
-    ] refl
+  | true ↦ λ t. ⊎_elim (λ l. inl (later label x list entry l))
+      (λ (r : (Some x ≡ Some entry) × HasNone label list). inl (first label x list entry ((bytes_eq-Decides x.label label).0 t) r.0 r.1))
+      (found label list (Some x) entry (sym (front label x list o true t) ∙ e))
+  | false ↦ λ t. ⊎_elim (λ l. inl (later label x list entry l))
+      (λ (r : (o ≡ Some entry) × HasNone label list). inr (r.0, All-cons (Apart label) x list (apart_of label x t) r.1))
+      (found label list o entry (sym (front label x list o false t) ∙ e))
+] refl
 
 -- an entry behind which none has the label is last
 given : (label : List ℕ) (list : List Entry) (entry : Entry) → IsLast label list entry → last_of label list ≡ Some entry
@@ -95,9 +94,9 @@ some_last y (z ∷ zs) n = some_last z zs n
 none_last : (label : List ℕ) (list : List Entry) (o : Option Entry) → last_or o (filter (is_of label) list) ≡ None → HasNone label list
 none_last label [] o e = All-nil (Apart label)
 none_last label (x ∷ list) o e = elim (is_of label x) as (λ b. is_of label x ≡ b → HasNone label (x ∷ list)) [
-      | true ↦ λ t. absurd (some_last x (filter (is_of label) list) (sym (front label x list o true t) ∙ e))
-      | false ↦ λ t. All-cons (Apart label) x list (apart_of label x t) (none_last label list o (sym (front label x list o false t) ∙ e))
-    ] refl
+  | true ↦ λ t. absurd (some_last x (filter (is_of label) list) (sym (front label x list o true t) ∙ e))
+  | false ↦ λ t. All-cons (Apart label) x list (apart_of label x t) (none_last label list o (sym (front label x list o false t) ∙ e))
+] refl
 
 pub none_is : (label : List ℕ) (list : List Entry) → (last_of label list ≡ None) ↔ HasNone label list
 none_is label list = (none_last label list None, none_kept label list None)

@@ -1,7 +1,7 @@
 -- What the definitions of a board come to.
 use Rattle.std.specs.Prelude.{◌≡◌, ◌≢◌, ◌↔◌, ◌⊎◌, ℕ, List, [], ◌∷◌, ◌++◌, Option, Some, None, All, Contains, slice_get, slice_set}
 use Rattle.board_model.specs.Boards.{Entry, last_of}
-use Rattle.board_model.specs.Rule.{Published, GoesOn, IsSeen, Keeps, Sees}
+use Rattle.board_model.specs.Rule.{Published, GoesOn, Keeps, Sees}
 
 -- no entry of a list has a label
 abbrev pub HasNone : List ℕ → List Entry → Type 0
