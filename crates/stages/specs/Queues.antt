@@ -1,0 +1,31 @@
+-- Queues and their passes, as clauses name them.
+use Rattle.std.specs.Prelude.{◌≡◌, ℕ, Bool}
+use Rattle.crossbeam_queue.specs.Passes as passes
+use Rattle.stage_model.specs.Passes.{Known}
+use Rattle.stages.specs.declared.job.ArchiveJob.{ArchiveJob}
+use Rattle.stages.specs.declared.pass.JobPass.{JobPass}
+use Rattle.stages.specs.declared.queue.JobQueue.{JobQueue}
+
+-- the pass is one of the queue
+abbrev pub IsPassOf : JobQueue → JobPass → Type 0
+IsPassOf queue pass = passes.IsPassOf queue.line pass.pass
+
+-- what was put and taken with the pass, and how many parts it has
+abbrev pub known : JobPass → Known ArchiveJob
+known pass = passes.view pass.pass
+
+-- how many takes with the pass found the queue empty
+abbrev pub empty_takes : JobPass → ℕ
+empty_takes pass = pass.empty_takes
+
+-- how many jobs the queue has room for
+abbrev pub capacity_of : JobQueue → ℕ
+capacity_of queue = passes.ruled_capacity queue.line
+
+-- whether the first pass was given
+abbrev pub is_given : JobQueue → Bool
+is_given queue = queue.is_given
+
+-- the two are one queue, before and after a call: each pass of the one is a pass of the other
+abbrev pub IsSameQueue : JobQueue → JobQueue → Type 0
+IsSameQueue old new = new.line ≡ old.line
