@@ -8,7 +8,7 @@ use lib.ListN.{get_elem?}
 use Rattle.stage_model.specs.Lines.{StandIn}
 use Rattle.stage_model.specs.Passes.{Handled, Known, handled, all_put, all_taken, unused, with_put, with_taken, less_one, both}
 use Rattle.stage_model.specs.Rules.{IsInOrder, IsIdle, Rule}
-use Rattle.stage_model.specs.Laws.{BeginsInOrder, PutKeeps, TakeKeeps, SplitKeeps, HandKeeps, JoinKeeps, IsLearned, AllIsTaken}
+use Rattle.stage_model.specs.Laws.{BeginsInOrder, PutKeeps, TakeKeeps, SplitKeeps, JoinKeeps, IsLearned, AllIsTaken}
 use Rattle.stage_model.proofs.Lists.{all_at, all_set, all_append, all_map, at_else}
 use Rattle.stage_model.proofs.Weights.{sum_set, sum_flat, sum_flat_set, one_whole, sum_none}
 use Rattle.stage_model.proofs.Orders.{stand_push, stand_longer}
@@ -25,9 +25,6 @@ begins_in_order Job = record {
 
 and_none : (n : ℕ) → n + 0 ≡ n
 and_none n = omega arith
-
-none_and : (n : ℕ) → 0 + n ≡ n
-none_and n = omega arith
 
 module _ {Job : Type 0} where
   -- a pass that has put and taken nothing weighs nothing
@@ -132,11 +129,6 @@ module _ {Job : Type 0} where
   split_keeps items passes at known two_parts rule there =
       recut items passes at known (less_one known) (unused 1) rule there (omega (arith, two_parts)) (λ weight. and_none (sum_by weight (all_put known))) (λ weight. and_none (sum_by weight (all_taken known)))
       (λ order. (order, ((tt, tt), tt))) (λ none. absurd (omega (arith, none, two_parts))) (λ is none. absurd (omega (arith, none)))
-
-  pub hand_keeps : HandKeeps Job
-  hand_keeps items passes at known rule there =
-      recut items passes at known (unused 0) known rule there (none_and known.parts) (λ weight. none_and (sum_by weight (all_put known))) (λ weight. none_and (sum_by weight (all_taken known)))
-      (λ order. (((tt, tt), tt), order)) (λ none. refl) (λ is. is)
 
   pub join_keeps : JoinKeeps Job
   join_keeps items passes at seat known other some_part rule there apart beside =

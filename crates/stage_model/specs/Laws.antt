@@ -22,10 +22,6 @@ module _ (Job : Type 0) where
   SplitKeeps = (items : List Job) (passes : List (Known Job)) (at : ℕ) (known : Known Job)
       → 1 < known.parts → Rule items passes → get_elem? passes at ≡ some known → Rule items (slice_set passes at (less_one known) ++ unused 1 ∷ [])
 
-  abbrev pub HandKeeps : Type 0
-  HandKeeps = (items : List Job) (passes : List (Known Job)) (at : ℕ) (known : Known Job)
-      → Rule items passes → get_elem? passes at ≡ some known → Rule items (slice_set passes at (unused 0) ++ known ∷ [])
-
   abbrev pub JoinKeeps : Type 0
   JoinKeeps = (items : List Job) (passes : List (Known Job)) (at there : ℕ) (known other : Known Job)
       → 0 < known.parts → Rule items passes → get_elem? passes at ≡ some known → there ≢ at → get_elem? (slice_set passes at (both known other)) there ≡ some other

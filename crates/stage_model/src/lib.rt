@@ -9,7 +9,7 @@
 //! empty has taken what was put.
 #![tactic(auto)]
 
-ghost use Rattle.stage_model.specs.Laws.{BeginsInOrder, PutKeeps, TakeKeeps, SplitKeeps, HandKeeps, JoinKeeps, IsLearned, AllIsTaken};
+ghost use Rattle.stage_model.specs.Laws.{BeginsInOrder, PutKeeps, TakeKeeps, SplitKeeps, JoinKeeps, IsLearned, AllIsTaken};
 
 /// An empty queue with one pass that has every part keeps the rule.
 pub fn begins_in_order<Job>()
@@ -29,11 +29,6 @@ pub fn take_keeps<Job>()
 /// The rule stays where a pass gives one of its parts to a new pass.
 pub fn split_keeps<Job>()
     ensures { SplitKeeps Job }
-{}
-
-/// The rule stays where a pass gives all that it has to a new pass.
-pub fn hand_keeps<Job>()
-    ensures { HandKeeps Job }
 {}
 
 /// The rule stays where a pass is joined into another one.

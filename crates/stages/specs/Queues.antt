@@ -1,5 +1,5 @@
 -- Queues and their passes, as clauses name them.
-use Rattle.std.specs.Prelude.{◌≡◌, ℕ, Bool}
+use Rattle.std.specs.Prelude.{ℕ}
 use Rattle.crossbeam_queue.specs.Passes as passes
 use Rattle.stage_model.specs.Passes.{Known}
 use Rattle.stages.specs.declared.job.ArchiveJob.{ArchiveJob}
@@ -21,11 +21,3 @@ empty_takes pass = pass.empty_takes
 -- how many jobs the queue has room for
 abbrev pub capacity_of : JobQueue → ℕ
 capacity_of queue = passes.ruled_capacity queue.line
-
--- whether the first pass was given
-abbrev pub is_given : JobQueue → Bool
-is_given queue = queue.is_given
-
--- the two are one queue, before and after a call: each pass of the one is a pass of the other
-abbrev pub IsSameQueue : JobQueue → JobQueue → Type 0
-IsSameQueue old new = new.line ≡ old.line

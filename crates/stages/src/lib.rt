@@ -10,8 +10,8 @@
 #![tactic(auto)]
 
 mod gate;
-mod handing;
 mod job;
+mod joining;
 mod pass;
 mod queue;
 mod rows;

@@ -1,13 +1,8 @@
 // The queue of jobs.
-ghost use Rattle.std.specs.Prelude.{◌≡◌, [], if◌then◌else◌};
-ghost use Rattle.crossbeam_queue.specs.Passes.{view};
-ghost use Rattle.stage_model.specs.Passes.{unused};
-
-use crate::handing::{Line, handed_over};
 use crate::job::ArchiveJob;
+use crate::joining::{Line, take_in};
 use crate::pass::JobPass;
-use crate::rule::{Knowledge, Parts, Puts, Takes};
-use crossbeam_queue::Pass;
+use crate::rule::{Parts, Puts, Takes};
 use pond_base::OutOfMemory;
 use std::alloc::Global;
 use std::sync::Wait;
@@ -17,54 +12,30 @@ use std::sync::Wait;
 #[derive(Drop)]
 pub struct JobQueue {
     line: Line,
-    // The pass that is to be given first, and a spent one once it was given.
-    kept: Pass<ArchiveJob, Knowledge>,
-    is_given: bool,
-    ghost same_table: { kept.table_id ≡ line.table.shared.table_id },
-    ghost at_home: { kept.me.1 ≡ [] },
-    ghost whole: { view kept ≡ (if is_given then unused 0 else unused 4) },
 }
 
 impl JobQueue {
-    ghost use Rattle.std.specs.Prelude.{◌≡◌, ◌<◌, ◌↔◌, [], ◌∷◌, true, false, if◌then◌else◌, IfOk, OnOk, IfErr, OnErr, IfSome, IfNone, IsSome};
+    ghost use Rattle.std.specs.Prelude.{◌≡◌, ◌<◌, [], ◌∷◌, if◌then◌else◌, IfOk, OnOk, IfErr, OnErr, IfSome, IfNone};
     ghost use Rattle.std.specs.Option.{is_some};
     ghost use Rattle.stage_model.specs.Lines.{AreSame};
     ghost use Rattle.stage_model.specs.Passes.{unused, all_put, all_taken, with_put, with_taken, less_one, both, one_more, IsWhole};
     ghost use Rattle.stage_model.specs.Rules.{Held};
-    ghost use Rattle.stages.specs.Queues.{IsPassOf, IsSameQueue, known, empty_takes, capacity_of, is_given};
+    ghost use Rattle.stages.specs.Queues.{IsPassOf, known, empty_takes, capacity_of};
 
-    /// An empty queue for so many jobs. `OutOfMemory` is answered for any number that has no room.
-    pub fn new(alloc: Global, capacity: u32) -> Result<JobQueue, OutOfMemory>
+    /// An empty queue for so many jobs, and its first pass, which has every part.
+    pub fn new(alloc: Global, capacity: u32) -> Result<(JobQueue, JobPass), OutOfMemory>
         requires { 0 < capacity }
-        ensures capacity { IfOk result (λ queue. capacity_of queue ≡ capacity) }
-        ensures first { IfOk result (λ queue. is_given queue ≡ false) }
+        ensures capacity { IfOk result (λ r. capacity_of r.0 ≡ capacity) }
+        ensures pass { IfOk result (λ r. IsPassOf r.0 r.1) }
+        ensures whole { IfOk result (λ r. known r.1 ≡ unused 4) }
+        ensures count { IfOk result (λ r. empty_takes r.1 ≡ 0) }
     {
-        let (line, kept) = Line::ruled(alloc, capacity as usize)?;
-        Ok(JobQueue {
-            line,
-            kept,
-            is_given: false,
-        })
-    }
-
-    /// The first pass, with every part. `None` exactly where it was given before. Takes no memory.
-    pub fn first(&mut self) -> Option<JobPass>
-        ensures pass { IfSome result (IsPassOf self.new) }
-        ensures whole { IfSome result (λ pass. known pass ≡ unused 4) }
-        ensures count { IfSome result (λ pass. empty_takes pass ≡ 0) }
-        ensures given { is_given self.new ≡ true }
-        ensures once { IsSome result ↔ (is_given self.old ≡ false) }
-        ensures same { IsSameQueue self.old self.new }
-    {
-        if self.is_given {
-            return None;
-        }
-        let pass = handed_over(&self.line, &mut self.kept);
-        self.is_given = true;
-        Some(JobPass {
+        let (line, pass) = Line::ruled(alloc, capacity as usize)?;
+        let pass = JobPass {
             pass,
             empty_takes: 0,
-        })
+        };
+        Ok((JobQueue { line }, pass))
     }
 
     /// A new pass, split off one that has more than one part: the first one, as long as fewer than three
@@ -138,6 +109,6 @@ impl JobQueue {
             pass: other,
             empty_takes: _,
         } = other;
-        self.line.absorb::<Parts>(&mut pass.pass, other);
+        take_in(&self.line, &mut pass.pass, other);
     }
 }

@@ -97,14 +97,3 @@ impl Join<Knowledge> for Parts {
 
     ghost spent = { unused 0 };
 }
-
-// All that a pass has goes to a new pass.
-pub struct Whole;
-
-impl Split<Knowledge> for Whole {
-    ghost use Rattle.stage_model.specs.Passes.{unused};
-
-    ghost left = { λ known. unused 0 };
-
-    ghost right = { λ known. known };
-}

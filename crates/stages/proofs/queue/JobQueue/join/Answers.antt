@@ -1,5 +1,0 @@
-use Rattle.stages.proofs.Steps.{joins}
-use Rattle.stages.proofs.queue.JobQueue.join.Goals as goal
-
-pub absorb-requires-clause-rule : goal.absorb-requires-clause-rule
-absorb-requires-clause-rule c = joins _ _ _ _ c.args.pass.now.some_part
