@@ -1,9 +1,7 @@
 // Queues of jobs: full and empty ones, workers, and workers beside who puts.
-ghost use Rattle.std.specs.Prelude.{◌≡◌, ◌<◌, IfOk};
-ghost use Rattle.stage_model.specs.Passes.{unused};
-ghost use Rattle.stages.specs.Queues.{IsPassOf, known};
+ghost use Rattle.stages.specs.Queues.{IsPassOf};
 
-use crate::telling::{Broken, add, add_bytes, add_number, bytes_of, same};
+use crate::telling::{Broken, add_bytes, add_number, bytes_of, same};
 use cauchy_code::Code;
 use pond_base::{Items, Label, Version};
 use stages::{ArchiveDone, ArchiveJob, Gate, JobPass, JobQueue, OpenGate, work};
