@@ -31,14 +31,15 @@ fn count_votes(f: u8, slots: u32) -> usize
 
 impl VoteBoard {
     ghost use Rattle.std.specs.Prelude.{◌≡◌, ◌<◌, ◌≤◌, ◌+◌, ◌*◌, ◌++◌, IfOk, IsOk};
-    ghost use Rattle.vote_words_model.specs.Places.{Fits, terms_of, size, quorum, votes, place, prepare_word, commit_word, word_count, IsPlace};
+    ghost use Rattle.vote_words_model.specs.Places.{Fits, terms_of, size, quorum, IsPlace};
+    ghost use Rattle.vote_words_model.specs.Places.{place, prepare_word, commit_word};
     ghost use Rattle.vote_words_model.specs.Views.{blank, IsSound, DecidesOnce};
     ghost use Rattle.vote_board.specs.Boards.{terms, view, IsSeatOf};
     ghost use Rattle.vote_board.specs.Changes.{DecideAlike};
 
-    /// A board without votes, of 3f+1 members and some slots, and its first seat, which knows nothing.
-    /// `may` has a number for each member of each slot, slot after slot: the one value that the member may
-    /// prepare there, or 0 where it may prepare any.
+    /// A board without votes, of 3f+1 members and some slots, and its first seat, which knows
+    /// nothing. `may` has a number for each member of each slot, slot after slot: the one value that
+    /// the member may prepare there, or 0 where it may prepare any.
     pub fn new(
         alloc: Global,
         f: u8,
@@ -61,7 +62,7 @@ impl VoteBoard {
         Ok((VoteBoard { terms, table }, VoteSeat { seat }))
     }
 
-    /// A further seat, which knows what this one knows. It takes no memory, so the answer is always `Ok`.
+    /// A further seat, which knows what this one knows. Takes no memory: the answer is always `Ok`.
     pub fn split(&self, seat: &mut VoteSeat) -> Result<VoteSeat, OutOfMemory>
         requires { IsSeatOf self.now seat.old }
         ensures always { IsOk result }
@@ -74,7 +75,8 @@ impl VoteBoard {
         Ok(VoteSeat { seat: copy })
     }
 
-    /// The seat then knows also what the other knew. What the two had decided agrees. Takes no memory.
+    /// The seat then knows also what the other knew. What the two had decided agrees. Takes no
+    /// memory.
     pub fn learn(&self, seat: &mut VoteSeat, other: VoteSeat)
         requires seat { IsSeatOf self.now seat.old }
         requires other { IsSeatOf self.now other }

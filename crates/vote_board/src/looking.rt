@@ -46,8 +46,10 @@ impl VoteBoard {
         requires seat { IsSeatOf self.now seat.old }
         requires row { from + size (terms self.now) ≤ word_count (terms self.now) }
         requires need { 0 < need }
-        ensures some { IfSome result (λ x. need ≤ count_known (view seat.new) (range_with_len from (size (terms self.now))) x) }
-        ensures none { IfNone result ((x : ℕ) → ¬ (need ≤ count_known (view seat.new) (range_with_len from (size (terms self.now))) x)) }
+        ensures some { let row = range_with_len from (size (terms self.now)) in
+            IfSome result (λ x. need ≤ count_known (view seat.new) row x) }
+        ensures none { let row = range_with_len from (size (terms self.now)) in
+            IfNone result ((x : ℕ) → ¬ (need ≤ count_known (view seat.new) row x)) }
         ensures loads { LoadsWords (view seat.old) (view seat.new) (range_with_len from (size (terms self.now))) }
         ensures sets { (view seat.new).sets ≡ (view seat.old).sets }
         ensures kept { Remembers (view seat.old) (view seat.new) }
