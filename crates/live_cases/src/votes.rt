@@ -111,7 +111,7 @@ fn told(alloc: Global, board: &VoteBoard, seat: &mut VoteSeat, step: Step) -> Re
     }
 }
 
-// The steps of the row by one seat, and then the decision of another that was split off before them.
+// The steps of the row by one seat, and then the decision of another, split off before them.
 fn walk(rt: &impl Abort, alloc: Global, board: &VoteBoard, seat: &mut VoteSeat)
     requires board { terms board.now ≡ terms_of 1 1 (replicate 4 0) }
     requires seat { IsSeatOf board.now seat.old }
@@ -170,11 +170,13 @@ fn raced<R: Threads + Sync>(
     let ((a, mut one), (b, two)) = join(
         rt,
         move || -> (Option<u32>, VoteSeat)
-            requires { (f ≤ 3) × (terms shared.now ≡ terms_of f 1 (replicate (3 * f + 1) 0)) × IsSeatOf shared.now one × (first ≢ 0) }
+            requires { (f ≤ 3) × (terms shared.now ≡ terms_of f 1 (replicate (3 * f + 1) 0))
+                × IsSeatOf shared.now one × (first ≢ 0) }
             ensures { IsSeatOf shared.entry.now result.1 }
         { cast_all(shared, one, f, first) },
         move || -> (Option<u32>, VoteSeat)
-            requires { (f ≤ 3) × (terms shared.now ≡ terms_of f 1 (replicate (3 * f + 1) 0)) × IsSeatOf shared.now two × (second ≢ 0) }
+            requires { (f ≤ 3) × (terms shared.now ≡ terms_of f 1 (replicate (3 * f + 1) 0))
+                × IsSeatOf shared.now two × (second ≢ 0) }
             ensures { IsSeatOf shared.entry.now result.1 }
         { cast_all(shared, two, f, second) },
     );

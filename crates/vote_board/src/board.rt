@@ -38,8 +38,8 @@ impl VoteBoard {
     ghost use Rattle.vote_board.specs.Changes.{DecideAlike};
 
     /// A board without votes, of 3f+1 members and some slots, and its first seat, which knows
-    /// nothing. `may` has a number for each member of each slot, slot after slot: the one value that
-    /// the member may prepare there, or 0 where it may prepare any.
+    /// nothing. `may` has a number for each member of each slot, slot after slot: the one value
+    /// that the member may prepare there, or 0 where it may prepare any.
     pub fn new(
         alloc: Global,
         f: u8,

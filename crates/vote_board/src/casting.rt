@@ -53,13 +53,16 @@ impl VoteBoard {
     pub fn commit(&self, seat: &mut VoteSeat, member: MemberId, slot: u32) -> CommitVote
         requires seat { IsSeatOf self.now seat.old }
         requires place { IsPlace (terms self.now) slot member.0 }
-        ensures prepared { IfSome (carried result) (λ x. IsPrepared (terms self.now) (view seat.new) slot x) }
+        ensures prepared { IfSome (carried result)
+            (λ x. IsPrepared (terms self.now) (view seat.new) slot x) }
         ensures known { let word = commit_word (terms self.now) slot member.0 in
             IfSome (carried result) (λ x. knows (view seat.new) word x ≡ true) }
-        ensures not_prepared { (result ≡ CommitVote.NotPrepared) ↔ NonePrepared (terms self.now) (view seat.new) slot }
+        ensures not_prepared { (result ≡ CommitVote.NotPrepared)
+            ↔ NonePrepared (terms self.now) (view seat.new) slot }
         ensures sets { let word = commit_word (terms self.now) slot member.0 in
             SetsWord (view seat.old) (view seat.new) word (is_commit_set result) }
-        ensures loads { LoadsWords (view seat.old) (view seat.new) (prepare_words (terms self.now) slot) }
+        ensures loads { LoadsWords (view seat.old) (view seat.new)
+            (prepare_words (terms self.now) slot) }
         ensures kept { Remembers (view seat.old) (view seat.new) }
         ensures sound { IsSound (view seat.new) }
         ensures once { DecidesOnce (terms self.now) (view seat.new) }
@@ -88,7 +91,8 @@ impl VoteBoard {
         requires slot { IsSlot (terms self.now) slot }
         ensures decided { IfSome result (λ x. IsDecided (terms self.now) (view seat.new) slot x) }
         ensures none { IsNone result ↔ NoneDecided (terms self.now) (view seat.new) slot }
-        ensures loads { LoadsWords (view seat.old) (view seat.new) (commit_words (terms self.now) slot) }
+        ensures loads { LoadsWords (view seat.old) (view seat.new)
+            (commit_words (terms self.now) slot) }
         ensures sets { (view seat.new).sets ≡ (view seat.old).sets }
         ensures kept { Remembers (view seat.old) (view seat.new) }
         ensures sound { IsSound (view seat.new) }

@@ -31,7 +31,8 @@ impl VoteBoard {
         requires seat { IsSeatOf self.now seat.old }
         requires row { from + length found.old ≤ word_count (terms self.now) }
         ensures shown { ShowsTo (view seat.new) from found.new (length found.new) }
-        ensures loads { LoadsWords (view seat.old) (view seat.new) (range_with_len from (length found.new)) }
+        ensures loads { LoadsWords (view seat.old) (view seat.new)
+            (range_with_len from (length found.new)) }
         ensures sets { (view seat.new).sets ≡ (view seat.old).sets }
         ensures kept { Remembers (view seat.old) (view seat.new) }
         ensures seat { IsSeatOf self.now seat.new }
@@ -50,7 +51,8 @@ impl VoteBoard {
             IfSome result (λ x. need ≤ count_known (view seat.new) row x) }
         ensures none { let row = range_with_len from (size (terms self.now)) in
             IfNone result ((x : ℕ) → ¬ (need ≤ count_known (view seat.new) row x)) }
-        ensures loads { LoadsWords (view seat.old) (view seat.new) (range_with_len from (size (terms self.now))) }
+        ensures loads { LoadsWords (view seat.old) (view seat.new)
+            (range_with_len from (size (terms self.now))) }
         ensures sets { (view seat.new).sets ≡ (view seat.old).sets }
         ensures kept { Remembers (view seat.old) (view seat.new) }
         ensures seat { IsSeatOf self.now seat.new }

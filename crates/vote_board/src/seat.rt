@@ -5,9 +5,9 @@ ghost use Rattle.vote_words_model.specs.Views.{IsSound};
 use atomic_table::Seat;
 use vote_words_model::View;
 
-/// What one thread knows of the words of a board: those that it found set, each with its value, and lists
-/// of those that it loaded and set. It knows no word with two values. It takes no bytes, and may go to
-/// another thread.
+/// What one thread knows of the words of a board: those that it found set, each with its value, and
+/// lists of those that it loaded and set. It knows no word with two values. It takes no bytes, and
+/// may go to another thread.
 #[derive(Drop)]
 pub struct VoteSeat {
     pub(crate) seat: Seat<(), View>,

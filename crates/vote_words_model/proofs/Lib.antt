@@ -4,3 +4,4 @@ pub mod Knowing
 pub mod Deciding
 pub mod Keeping
 pub mod Schedules
+pub mod Guards
