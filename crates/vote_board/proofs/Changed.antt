@@ -1,45 +1,16 @@
 -- What an exchange makes of a view.
-use Rattle.std.proofs.Common.{◌≡◌, ◌≢◌, ℕ, ◌≤◌, Bool, true, false, cond, ◌==◌, List, [], ◌∷◌, ◌++◌, append_assoc, append-nil, sym, ap, ◌∙◌, subst, arith}
-use Rattle.std.proofs.lemmas.Bool.{eq-eqb, ne_eqb}
+use Rattle.std.proofs.Common.{◌≡◌, ℕ, ◌≤◌, Bool, true, false, cond, ◌==◌, List, [], ◌∷◌, ◌++◌, append_assoc, append-nil, sym, ap, ◌∙◌, subst, arith}
 use Rattle.vote_words_model.specs.declared.View.{View}
 use Rattle.vote_words_model.specs.declared.Terms.{Terms}
 use Rattle.vote_words_model.specs.Places.{prepare_words, commit_words}
 use Rattle.vote_words_model.specs.Views.{has_pair, knows, IsSound, IsPrepared, count_known, loaded, stood, exchanged}
 use Rattle.vote_words_model.proofs.Counting.{count_by-le-count_by}
-use Rattle.vote_words_model.proofs.Knowing.{has_pair-push, has_pair-append_left, has_pair-append_right}
+use Rattle.vote_words_model.proofs.Knowing.{has_pair-append_left, has_pair-append_right}
 use Rattle.vote_words_model.proofs.Deciding.{decides_one}
-use Rattle.vote_board.specs.Changes.{SetsWord, LearnsWord, Remembers, DecideAlike}
-
--- What a call changes where it exchanges one word.
-pub record Exchanged (v w : View) (word value : ℕ) (is_set : Bool) : Type 0 where
-  pub known : LearnsWord v w word value
-  pub sets : SetsWord v w word is_set
-  pub loads : w.loads ≡ v.loads
-
-pub exchanged_set : (v w : View) (word value found : ℕ) → w ≡ exchanged v word value found → found ≡ 0 → Exchanged v w word value true
-exchanged_set v w word value found e none =
-    let t : (found == 0) ≡ true = eq-eqb found 0 none in
-    record {
-      known = ap (λ (u : View). u.known) e ∙ ap (λ (b : Bool). v.known ++ (word, cond b value found) ∷ []) t;
-      sets = ap (λ (u : View). u.sets) e ∙ ap (λ (b : Bool). cond b (v.sets ++ word ∷ []) v.sets) t;
-      loads = ap (λ (u : View). u.loads) e;
-    }
-
-pub exchanged_was : (v w : View) (word value found : ℕ) → w ≡ exchanged v word value found → found ≢ 0 → Exchanged v w word found false
-exchanged_was v w word value found e some =
-    let t : (found == 0) ≡ false = ne_eqb found 0 some in
-    record {
-      known = ap (λ (u : View). u.known) e ∙ ap (λ (b : Bool). v.known ++ (word, cond b value found) ∷ []) t;
-      sets = ap (λ (u : View). u.sets) e ∙ ap (λ (b : Bool). cond b (v.sets ++ word ∷ []) v.sets) t;
-      loads = ap (λ (u : View). u.loads) e;
-    }
+use Rattle.vote_board.specs.Changes.{Remembers, DecideAlike}
 
 pub Remembers-trans : (u v w : View) → Remembers u v → Remembers v w → Remembers u w
 Remembers-trans u v w a b = (a.0 ++ b.0, b.1 ∙ ap (λ known. known ++ b.0) a.1 ∙ append_assoc u.known a.0 b.0)
-
--- the word is known
-pub learnt_known : (v w : View) (word value : ℕ) → LearnsWord v w word value → knows w word value ≡ true
-learnt_known v w word value e = subst (λ (known : List (ℕ × ℕ)). has_pair known word value ≡ true) (sym e) (has_pair-push v.known word value)
 
 -- a load adds a pair or none
 pub loaded_remembers : (v w : View) (word found : ℕ) → w ≡ loaded v word found → Remembers v w

@@ -19,12 +19,6 @@ decides_one t v sound slot x y dx dy =
     let r = two_quorums t.f (commit_word t slot 0) (λ i. knows v i x) (λ i. knows v i y) dx dy in
     (sound r.0 x y r.1 r.2).1
 
--- and one value is prepared
-pub prepares_one : (t : Terms) (v : View) → IsSound v → (slot x y : ℕ) → IsPrepared t v slot x → IsPrepared t v slot y → x ≡ y
-prepares_one t v sound slot x y px py =
-    let r = two_quorums t.f (prepare_word t slot 0) (λ i. knows v i x) (λ i. knows v i y) px py in
-    (sound r.0 x y r.1 r.2).1
-
 -- what is decided is not 0
 pub decided_full : (t : Terms) (v : View) → IsSound v → (slot x : ℕ) → IsDecided t v slot x → x ≢ 0
 decided_full t v sound slot x d =
