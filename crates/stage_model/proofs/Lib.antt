@@ -1,0 +1,4 @@
+mod Lists
+mod Weights
+mod Orders
+pub mod Moves

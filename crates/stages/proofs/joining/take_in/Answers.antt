@@ -1,0 +1,5 @@
+use Rattle.stages.proofs.Steps.{joins}
+use Rattle.stages.proofs.joining.take_in.Goals as goal
+
+pub absorb-requires-clause-rule : goal.absorb-requires-clause-rule
+absorb-requires-clause-rule c = joins _ _ _ _ c.requires.part
