@@ -277,7 +277,7 @@ fn beside<R: Threads + Wait + Sync>(
     if rises { Some(reader) } else { None }
 }
 
-// What is read after the last note.
+// What is read after the last note, and how often the reader was turned away.
 fn run_beside<R: Threads + Wait + Sync>(
     rt: &R,
     alloc: Global,
@@ -289,7 +289,11 @@ fn run_beside<R: Threads + Wait + Sync>(
     let label = Label::read(b"a")?;
     let tree = tree_of(alloc, "6162")?;
     match beside(rt, writer, reader, label, &tree) {
-        Some(mut reader) => read(alloc, &mut reader, "a"),
+        Some(mut reader) => {
+            let mut text = read(alloc, &mut reader, "a")?;
+            add(&mut text, shut(alloc, &reader))?;
+            Ok(text)
+        }
         None => line(alloc, "it fell\n"),
     }
 }
@@ -309,6 +313,6 @@ fn a_reader_beside_a_writer(rt: HostRuntime) {
     same(
         &rt,
         two_threads(&rt, rt.alloc()),
-        "version 100 seen 100 6162\n",
+        "version 100 seen 100 6162\nshut 0\n",
     );
 }

@@ -1,3 +1,4 @@
 mod Converses
 mod Said
 mod Clashing
+mod Agreed

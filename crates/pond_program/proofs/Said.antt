@@ -1,12 +1,12 @@
--- The answers of a run of a text, as answers of the program.
+-- The answers of a run of a text, as those of `run`.
 use Rattle.std.proofs.Common.{◌≡◌, ◌++◌, ℕ, List, Option, None, Some, Err, IfSome, sym, ◌∙◌, ap, subst, append-nil, inr}
 use Rattle.std.specs.Io.KnownBytes.{Consumes, IsAtEnd}
 use Rattle.script_grammar.specs.Script.{script_of}
 use Rattle.pond_program.specs.declared.status.Status.{Status}
 use Rattle.pond_program.specs.declared.status.Status.TheVariants.{Done, Usage, Refused, ReadFault, WriteFault, Clash, Memory, TooLarge}
-use Rattle.pond_program.specs.Runs.{RunSays}
+use Rattle.pond_program.specs.Runs.{TextSays, TakesText, TakesUntilClash, TakesPrefix, TakesAtMost}
 use Rattle.pond_base.specs.Outside.{Seen, IsSound}
-use Rattle.pond_program.specs.Table.{Says, Outside, IsRun, IsSmall, ReadsAll, TakesText, TakesUntilClash, TakesPrefix, TakesAtMost}
+use Rattle.pond_program.specs.Table.{RunSays, IsSmall, ReadsAll}
 
 -- these bytes are all that a source had, where it tells them
 abbrev pub IsAll : Option (List ℕ) → List ℕ → Type 0
@@ -36,20 +36,18 @@ reads_all source given P read p = record {
   bytes = of_all (λ bytes. IsSmall bytes × P bytes) source.before given read.all (read.small, p);
 }
 
-pub run_says : (status : Status) (o : Outside) (given : List ℕ) → IsRun o.words → IsRead o.source given → RunSays status given o.sink → Says status o
-run_says Done o given run read says = record { run = run; read = reads_all o.source given (TakesText o.sink) read says.0; sound = says.1 }
-run_says Usage o given run read says = absurd says
-run_says (Refused line cause) o given run read says = record {
-  run = run;
-  read = reads_all o.source given (λ bytes. script_of bytes ≡ Err (record { line = line; cause = cause })) read says.refused;
+pub run_says : (status : Status) (source sink : Seen) (given : List ℕ) → IsRead source given → TextSays status given sink → RunSays status source sink
+run_says Done source sink given read says = record { read = reads_all source given (TakesText sink) read says.0; sound = says.1 }
+run_says Usage source sink given read says = absurd says
+run_says (Refused line cause) source sink given read says = record {
+  read = reads_all source given (λ bytes. script_of bytes ≡ Err (record { line = line; cause = cause })) read says.refused;
   unwritten = says.unwritten;
 }
-run_says ReadFault o given run read says = absurd says
-run_says WriteFault o given run read says = record { run = run; read = reads_all o.source given (TakesPrefix o.sink) read says.0; failed = says.1 }
-run_says (Clash line old new) o given run read says = record { run = run; read = reads_all o.source given (TakesUntilClash o.sink line old new) read says.0; sound = says.1 }
-run_says Memory o given run read says = record {
-  run = run;
+run_says ReadFault source sink given read says = absurd says
+run_says WriteFault source sink given read says = record { read = reads_all source given (TakesPrefix sink) read says.0; failed = says.1 }
+run_says (Clash line old new) source sink given read says = record { read = reads_all source given (TakesUntilClash sink line old new) read says.0; sound = says.1 }
+run_says Memory source sink given read says = record {
   unfailed = (read.sound, says.1);
-  written = inr (reads_all o.source given (TakesAtMost o.sink) read says.0);
+  written = inr (reads_all source given (TakesAtMost sink) read says.0);
 }
-run_says TooLarge o given run read says = absurd says
+run_says TooLarge source sink given read says = absurd says

@@ -3,3 +3,4 @@ pub mod Exit
 pub mod Lines
 pub mod Runs
 pub mod Table
+pub mod Tasks

@@ -1,5 +1,5 @@
 pub mod Made
-pub mod Flags
+pub mod Faulty
 pub mod Sites
 pub mod Coming
 pub mod Elements

@@ -13,12 +13,12 @@ use Rattle.ring_world.specs.declared.state.World.{World}
 use Rattle.ring_world.specs.Steps.{IsStepClash, IsStepClashAmong}
 use Rattle.ring_world.specs.Worlds.{IsKnown}
 use Rattle.ring_world.proofs.Requests.{known_still}
-use Rattle.pond_world.proofs.Made.{node_known}
+use Rattle.pond_world.proofs.Made.{place_known}
 
 -- what a world named stays known while the book grows
 pub world_known : (h : List ℕ → List ℕ) (held now : Held) (w : World Node) → Keeps held now → IsKnown node.IsKnown h held w → IsKnown node.IsKnown h now w
 world_known h held now w keeps k =
-    known_still node.IsKnown h held now w w refl (λ i d low. node_known h held now (get_or w.members.nodes.items i d) keeps (k.nodes i d low)) keeps k
+    known_still node.IsKnown h held now w w refl (λ i d low. place_known h held now (get_or w.members.nodes.items i d) keeps (k.nodes i d low)) keeps k
 
 clash_back : (h : List ℕ → List ℕ) (now : Held) (Of : List ℕ → Type 0) (fault : NameFault) → IsStepClash h now Of (step_fault fault) → IsClashIn h now Of fault
 clash_back h now Of (Clash old new) clash = clash

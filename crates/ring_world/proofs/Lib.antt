@@ -12,3 +12,4 @@ pub mod Settling
 pub mod Standing
 pub mod Stepping
 pub mod Telling
+pub mod Taken

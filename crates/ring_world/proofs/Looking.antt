@@ -1,5 +1,5 @@
 -- What look-ups find.
-use Rattle.std.proofs.Common.{◌≡◌, ℕ, zero, suc, ◌+◌, ◌*◌, ◌<◌, ◌≤◌, min, Bool, true, false, cond, not, ◌&&◌, List, [], ◌∷◌, ◌++◌, length, find, get_or, Some, None, option_map, Contains, ⊎_elim, sym, ap, ◌∙◌, subst, arith, length-append, append_assoc}
+use Rattle.std.proofs.Common.{◌≡◌, ℕ, ◌+◌, ◌*◌, ◌<◌, ◌≤◌, min, Bool, true, false, cond, not, ◌&&◌, List, [], ◌∷◌, ◌++◌, length, find, Some, None, option_map, Contains, ⊎_elim, sym, ap, ◌∙◌, subst, arith, length-append, append_assoc}
 use Rattle.std.specs.List.{AllByRecursion as Each}
 use Rattle.ring_model.specs.Messages.{Ring, Letter, Party as Who, Packet as Sent, Member, same_party}
 use Rattle.ring_model.specs.Member.{executed}
@@ -21,6 +21,7 @@ use Rattle.ring_world.specs.Crew.{AreMembers}
 use Rattle.message_model.specs.Told.{Told, told, counted}
 use Rattle.ring_world.specs.Standing.{Standing}
 use Rattle.ring_world.proofs.Correct.{none_correct}
+use Rattle.ring_world.proofs.Standing.{down}
 use Rattle.ring_world.proofs.Stepping.{all_few, told_place}
 
 -- ---- what is pending
@@ -57,18 +58,11 @@ found_none sent done found = ap (option_map counted) found
 
 -- ---- the best member
 
--- where a flag is down, it is there
-pub down_there : (flags : List Bool) (i : ℕ) → get_or flags i true ≡ false → i < length flags
-down_there [] i e = absurd (cc e)
-down_there (x ∷ flags) zero e = omega arith
-down_there (x ∷ flags) (suc i) e = let low = down_there flags i e in omega (arith, low)
-
 -- the correct member that is kept is one
 kept_correct : {N : Type 0} (stands : Standing N) (g : Ring) (m : Members N) (got : Who → List Letter) (archived : ℕ → ℕ) → AreMembers stands g m got archived → IsCorrect g m.correct
 kept_correct stands g m got archived h =
-    let low = down_there m.faulty.items m.correct m.there in
-    let less : m.correct < 3 * g.f + 1 = omega (arith, low, m.flags, h.count) in
-    (less, sym (h.faulty_are m.correct true less) ∙ m.there)
+    let less : m.correct < 3 * g.f + 1 = omega (arith, m.there.0, h.count) in
+    (less, down (g.is_faulty m.correct) (sym m.there.1 ∙ h.there_are m.correct None less))
 
 -- a best one is found, and it has a node
 pub best_there : {N : Type 0} (stands : Standing N) (g : Ring) (m : Members N) (got : Who → List Letter) (archived : ℕ → ℕ) → AreMembers stands g m got archived → IsBest g got 0 (3 * g.f + 1) None → (Y : Type 0) → Y

@@ -1,5 +1,5 @@
 -- Which events may come next, by the values of a world and by the events so far.
-use Rattle.std.proofs.Common.{◌≡◌, ℕ, zero, suc, ◌+◌, ◌-◌, ◌*◌, ◌<◌, ◌≤◌, Bool, true, false, cond, ◌==◌, ◌&&◌, List, [], ◌∷◌, length, filter, count_by, get_or, nat_lt, nat_le, ⊎_elim, refl, sym, ap, ◌∙◌, subst, arith}
+use Rattle.std.proofs.Common.{◌≡◌, ℕ, zero, suc, ◌+◌, ◌-◌, ◌*◌, ◌<◌, ◌≤◌, Bool, true, false, cond, ◌==◌, ◌&&◌, List, [], ◌∷◌, length, filter, count_by, get_or, nat_lt, nat_le, None, ⊎_elim, refl, sym, ap, ◌∙◌, subst, arith}
 use Rattle.std.specs.List.{sum_by, range_with_len, AllByRecursion as Each}
 use Rattle.std.proofs.lemmas.Bool.{eqb-true, eq-eqb, ne_eqb, cases_lt}
 use Rattle.std.proofs.lemmas.List.Sums.{sum_by-cons, length-filter}
@@ -24,6 +24,7 @@ use Rattle.ring_world.specs.declared.state.World.{World}
 use Rattle.ring_world.specs.Conditions.{MayStep, FitsPlaces}
 use Rattle.ring_model.specs.Deliveries.{deliveries}
 use Rattle.ring_world.specs.Standing.{Standing}
+use Rattle.ring_world.proofs.Standing.{faulty_at, none_at}
 use Rattle.ring_world.specs.Steps.{IsStep, IsNext, IsDeclared, all_asked}
 use Rattle.ring_world.specs.Worlds.{IsWorld, WorldStands, next_request, event_of}
 use Rattle.ring_world.proofs.Fits.{step_fits}
@@ -150,7 +151,7 @@ next_comes stands h g w events (Resubmit c n) ring s next places =
 next_comes stands h g w events (Deliver p q k) ring s next places = (declared_party stands g w events (who p) s next.0, declared_party stands g w events (who q) s next.1)
 next_comes stands h g w events (Forge i q bytes) ring s next places =
     let there : i.0 < 3 * g.f + 1 = declared_party stands g w events (member i.0) s next.0.0 in (
-      sym (s.is.members_are.faulty_are i.0 false there) ∙ next.1 false,
+      faulty_at stands g w.members (world g events).got (world g events).archived i.0 None s.is.members_are there (sym (next.1 None)) refl,
       there,
       declared_party stands g w events (who q) s next.0.1,
     )
@@ -163,7 +164,7 @@ comes_next stands g w events (Submit c label update) s step may =
     (step_fits stands g w events (Submit c label update) s step, omega (arith, all, may.0, s.is.small.slots))
 comes_next stands g w events (Resubmit c n) s step may = step_fits stands g w events (Resubmit c n) s step
 comes_next stands g w events (Deliver p q k) s step may = step_fits stands g w events (Deliver p q k) s step
-comes_next stands g w events (Forge i q bytes) s step may = (step_fits stands g w events (Forge i q bytes) s step, λ d. s.is.members_are.faulty_are i.0 d may.1 ∙ may.0)
+comes_next stands g w events (Forge i q bytes) s step may = (step_fits stands g w events (Forge i q bytes) s step, λ d. none_at stands g w.members (world g events).got (world g events).archived i.0 d s.is.members_are may.1 may.0)
 
 -- a step can do it
 pub next_step : {N : Type 0} (w : World N) (e : Event) → IsNext w e → IsStep w e

@@ -1,5 +1,5 @@
 -- What clients and faulty members send.
-use Rattle.std.proofs.Common.{◌≡◌, ℕ, zero, suc, ◌+◌, ◌<◌, Bool, true, false, cond, ◌&&◌, ◌==◌, List, [], ◌∷◌, ◌++◌, length, filter, count_by, find, slice_get, get_or, Some, Vec, Contains, refl, sym, ap, ap₂, ◌∙◌, subst, arith, append-nil}
+use Rattle.std.proofs.Common.{◌≡◌, ℕ, zero, suc, ◌+◌, ◌<◌, Bool, true, false, cond, ◌&&◌, ◌==◌, List, [], ◌∷◌, ◌++◌, length, filter, count_by, find, slice_get, get_or, Option, Some, None, IfSome, Vec, Contains, refl, sym, ap, ap₂, ◌∙◌, subst, arith, append-nil}
 use Rattle.std.specs.List.{AllByRecursion as Each}
 use Rattle.std.specs.Vec.{with_item}
 use Rattle.std.specs.declared.alloc.Global.{Global}
@@ -175,13 +175,17 @@ known_still knows h held now w new same nodes keeps k =
 pub known_more : {N : Type 0} (knows : Knowing N) (h : List ℕ → List ℕ) (held now : Held) (w : World N) (c : ℕ) (new : Client) (mail : Mail)
     → ((node : N) → knows h held node → knows h now node) → Keeps held now → c < length w.clients.items → Each (IsNamed h now) (texts_of new)
     → IsKnown knows h held w → IsKnown knows h now (record w { clients = with_item w.clients c new; mail = mail })
-known_more knows h held now w c new mail stays keeps low holds k =
+known_more {N = N} knows h held now w c new mail stays keeps low holds k =
     record {
-      nodes = λ i n less. stays (get_or w.members.nodes.items i n) (k.nodes i n less);
+      nodes = λ i n less. if_some (get_or w.members.nodes.items i n) (k.nodes i n less);
       requests = λ j e less.
           each_set (λ i x. Each (IsNamed h held) (texts_of x)) (λ i x. Each (IsNamed h now) (texts_of x)) w.clients.items c (length w.clients.items) new low holds
           (λ i x other is. held_still h held now keeps (texts_of x) is) k.requests j e (omega (arith, less, length-set w.clients.items c new));
     }
+  where
+    if_some : (node : Option N) → IfSome node (knows h held) → IfSome node (knows h now)
+    if_some None is = tt
+    if_some (Some one) is = stays one is
 
 -- a request that is held, with its label's string
 named_so : (h : List ℕ → List ℕ) (now : Held) (r : Asking) → IsRequest r → Holds h now (request_string r) → Holds h now (label_string r.label) → IsNamed h now (request_string r)

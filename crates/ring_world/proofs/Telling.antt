@@ -66,7 +66,7 @@ told_client stands g w v done from c bytes new low is h =
     record {
       small = h.small;
       mail_is = subst (λ xs. IsMail w.mail xs done) (sym (append-nil v.sent)) h.mail_is;
-      members_are = record { count = h.members_are.count; faulty_are = h.members_are.faulty_are; nodes_stand = h.members_are.nodes_stand };
+      members_are = record { count = h.members_are.count; there_are = h.members_are.there_are; nodes_stand = h.members_are.nodes_stand };
       client_count = omega (arith, length-set w.clients.items c new, h.client_count);
       clients_stand = each_set (λ k x. ClientStands x g k (filter (of g k) v.submits) (v.got (client k))) (λ k x. ClientStands x g k (filter (of g k) v.submits) (got k (c == k))) w.clients.items c g.clients new low
           (subst (λ b. ClientStands new g c (filter (of g c) v.submits) (got c b)) (sym (eq-eqb c c refl)) is)
@@ -81,14 +81,14 @@ told_client stands g w v done from c bytes new low is h =
     got k mine = cond mine (record { from = from; message = meaning bytes } ∷ v.got (client k)) (v.got (client k))
 
 -- no client submitted anything, and nothing happened
-pub starts : {N : Type 0} (stands : Standing N) (g : Ring) (w : World N) (f count : ℕ) → IsStart stands g w.members.nodes.items w.members.faulty.items count → length w.members.nodes.items ≡ 3 * f + 1
+pub starts : {N : Type 0} (stands : Standing N) (g : Ring) (w : World N) (f count : ℕ) → IsStart stands g w.members.nodes.items count → length w.members.nodes.items ≡ 3 * f + 1
     → ((r : Ring) → r.f ≡ f → (c : ℕ) (d : Client) → c < count → ClientStands (get_or w.clients.items c d) r c [] []) → length w.clients.items ≡ count → IsMail w.mail [] [] → w.recent ≡ buffer [] 8 → w.ended ≡ false
     → WorldStands stands g w []
 starts stands g w f count s size stand clients mail recent going = record {
   is = record {
     small = s.small;
     mail_is = mail;
-    members_are = record { count = s.count; faulty_are = s.faulty_are; nodes_stand = s.nodes_stand };
+    members_are = record { count = s.count; there_are = s.there_are; nodes_stand = s.nodes_stand };
     client_count = clients ∙ s.clients_are;
     clients_stand = λ c d low. stand g (omega (arith, size, s.count)) c d (omega (arith, low, s.clients_are));
     recent_is = ap (λ (b : Buffer Told). map told b.items) recent;

@@ -1,8 +1,8 @@
 -- The members of a ring with their nodes.
-use Rattle.std.specs.Prelude.{◌≡◌, ℕ, ◌+◌, ◌*◌, ◌<◌, Bool, false, cond, List, [], ◌∷◌, length, slice_index_or}
+use Rattle.std.specs.Prelude.{◌≡◌, ℕ, ◌+◌, ◌*◌, ◌<◌, not, cond, List, [], ◌∷◌, length, slice_index_or, Option, is_some, IfSome}
 use Rattle.block_names.specs.Held.{Held}
 use Rattle.pond_base.specs.declared.numbers.Party.{Party as Sender}
-use Rattle.ring_model.specs.Messages.{Ring, Letter, Packet, Party, Member, Client, same_party}
+use Rattle.ring_model.specs.Messages.{Ring, Letter, Packet, Party, Member, same_party}
 use Rattle.ring_model.specs.Member.{causes}
 use Rattle.ring_model.specs.World.{IsParty}
 use Rattle.message_model.specs.Meaning.{who}
@@ -10,15 +10,15 @@ use Rattle.message_model.specs.Reading.{IsRingOf}
 use Rattle.ring_world.specs.declared.members.Members.{Members}
 use Rattle.ring_world.specs.Standing.{Standing, Knowing}
 
--- the flags tell who is faulty, and each correct member's node stands for what was delivered to it and for how many versions it archived
+-- a member has a node exactly where it is correct, and its node stands for what was delivered to it and for how many versions it archived
 pub record AreMembers {N : Type 0} (stands : Standing N) (g : Ring) (m : Members N) (got : Party → List Letter) (archived : ℕ → ℕ) : Type 0 where
   pub count : length m.nodes.items ≡ 3 * g.f + 1
-  pub faulty_are : (i : ℕ) (d : Bool) → i < 3 * g.f + 1 → slice_index_or m.faulty.items i d ≡ g.is_faulty i
-  pub nodes_stand : (i : ℕ) (d : N) → i < 3 * g.f + 1 → g.is_faulty i ≡ false → stands (slice_index_or m.nodes.items i d) g i (got (Member i)) (archived i)
+  pub there_are : (i : ℕ) (d : Option N) → i < 3 * g.f + 1 → is_some (slice_index_or m.nodes.items i d) ≡ not (g.is_faulty i)
+  pub nodes_stand : (i : ℕ) (d : Option N) → i < 3 * g.f + 1 → IfSome (slice_index_or m.nodes.items i d) (λ node. stands node g i (got (Member i)) (archived i))
 
 -- what is held has all that the nodes named
 abbrev pub NodesKnown : {N : Type 0} → Knowing N → (List ℕ → List ℕ) → Held → Members N → Type 0
-NodesKnown {N} knows h held m = (i : ℕ) (d : N) → i < length m.nodes.items → knows h held (slice_index_or m.nodes.items i d)
+NodesKnown {N} knows h held m = (i : ℕ) (d : Option N) → i < length m.nodes.items → IfSome (slice_index_or m.nodes.items i d) (knows h held)
 
 -- what was delivered, with a letter more to this party
 abbrev pub with_letter : (Party → List Letter) → Party → Letter → Party → List Letter

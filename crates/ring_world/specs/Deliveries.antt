@@ -1,5 +1,4 @@
 -- What a party sends, by its bytes.
-use Rattle.std.specs.Prelude.{ℕ}
 use Rattle.ring_message.specs.declared.message.Out.{Out}
 use Rattle.ring_model.specs.Messages.{Party, Packet}
 use Rattle.message_model.specs.Meaning.{who, meaning}

@@ -4,6 +4,7 @@ pub mod Bound
 pub mod Conditions
 pub mod Crew
 pub mod Deliveries
+pub mod Nodes
 pub mod Settles
 pub mod Skipping
 pub mod Standing

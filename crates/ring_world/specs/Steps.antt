@@ -1,5 +1,5 @@
 -- What a step asks and answers.
-use Rattle.std.specs.Prelude.{◌≡◌, ◌≢◌, ℕ, ◌+◌, ◌-◌, ◌<◌, ◌≤◌, List, length, slice_index_or, slice_get, Bool, true, false, cond, is_some, Some, None, filter, ◌==◌, Result, Ok, Err, IsTrue}
+use Rattle.std.specs.Prelude.{◌≡◌, ◌≢◌, ℕ, ◌+◌, ◌-◌, ◌<◌, ◌≤◌, List, length, slice_index_or, slice_get, Bool, true, false, cond, is_some, Option, Some, None, filter, ◌==◌, Result, Ok, Err, IsTrue}
 use Rattle.std.specs.List.{sum_by}
 use Rattle.std.specs.FinMap as map
 use Rattle.block_names.specs.Held.{Held}
@@ -38,12 +38,12 @@ IsStep w (Forge i q bytes) = IsDeclared w (member i.0) × IsDeclared w (who q)
 abbrev pub all_asked : {N : Type 0} → World N → ℕ
 all_asked w = sum_by (λ (c : Client). length c.requests.items) w.clients.items
 
--- an event may come next: a step can do it, there is a slot for one request more, and a forger is faulty
+-- an event may come next: a step can do it, there is a slot for one request more, and a forger is faulty, so that it has no node
 abbrev pub IsNext : {N : Type 0} → World N → Event → Type 0
-IsNext w (Submit c label update) = IsStep w (Submit c label update) × (all_asked w < 65536)
-IsNext w (Resubmit c n) = IsStep w (Resubmit c n)
-IsNext w (Deliver p q k) = IsStep w (Deliver p q k)
-IsNext w (Forge i q bytes) = IsStep w (Forge i q bytes) × ((d : Bool) → slice_index_or w.members.faulty.items i.0 d ≡ true)
+IsNext {N} w (Submit c label update) = IsStep w (Submit c label update) × (all_asked w < 65536)
+IsNext {N} w (Resubmit c n) = IsStep w (Resubmit c n)
+IsNext {N} w (Deliver p q k) = IsStep w (Deliver p q k)
+IsNext {N} w (Forge i q bytes) = IsStep w (Forge i q bytes) × ((d : Option N) → slice_index_or w.members.nodes.items i.0 d ≡ None)
 
 -- whether an event finds what it needs: a delivery its message
 abbrev pub is_there : Model → model.Event → Bool

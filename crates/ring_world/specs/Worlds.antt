@@ -1,5 +1,5 @@
 -- A world of nodes and clients, and the events that it stands for.
-use Rattle.std.specs.Prelude.{◌≡◌, ℕ, zero, suc, ◌+◌, ◌*◌, ◌<◌, ◌≤◌, Bool, false, ◌==◌, List, [], ◌∷◌, map, filter, length, count_by, slice_get, slice_index_or, Contains}
+use Rattle.std.specs.Prelude.{◌≡◌, ℕ, zero, suc, ◌+◌, ◌*◌, ◌<◌, ◌≤◌, false, not, ◌==◌, List, [], ◌∷◌, map, filter, length, count_by, slice_get, slice_index_or, Option, is_some, IfSome, Contains}
 use Rattle.std.specs.List.{AllByRecursion}
 use Rattle.circular_buffer.specs.Buffer.{keep_last}
 use Rattle.block_names.specs.Held.{Held}
@@ -97,10 +97,10 @@ ForEvents stands h w P = (g : Ring) (events : List model.Event) → IsRingOf h g
 abbrev pub ForStep : {N : Type 0} → Standing N → (List ℕ → List ℕ) → World N → Event → (Ring → List model.Event → Type 0) → Type 0
 ForStep stands h w event P = ForEvents stands h w (λ g events. MayHappen g (world g events) (event_of g (world g events) event) → P g events)
 
--- the nodes are those of the ring, before any letter
-pub record IsStart {N : Type 0} (stands : Standing N) (g : Ring) (nodes : List N) (faulty : List Bool) (clients : ℕ) : Type 0 where
+-- there is a node for each correct member of the ring, before any letter, and for no faulty one
+pub record IsStart {N : Type 0} (stands : Standing N) (g : Ring) (nodes : List (Option N)) (clients : ℕ) : Type 0 where
   pub small : IsSmall g
   pub count : length nodes ≡ 3 * g.f + 1
-  pub faulty_are : (i : ℕ) (d : Bool) → i < 3 * g.f + 1 → slice_index_or faulty i d ≡ g.is_faulty i
-  pub nodes_stand : (i : ℕ) (d : N) → i < 3 * g.f + 1 → g.is_faulty i ≡ false → stands (slice_index_or nodes i d) g i [] 0
+  pub there_are : (i : ℕ) (d : Option N) → i < 3 * g.f + 1 → is_some (slice_index_or nodes i d) ≡ not (g.is_faulty i)
+  pub nodes_stand : (i : ℕ) (d : Option N) → i < 3 * g.f + 1 → IfSome (slice_index_or nodes i d) (λ node. stands node g i [] 0)
   pub clients_are : clients ≡ g.clients

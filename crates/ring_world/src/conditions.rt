@@ -1,5 +1,5 @@
 // What a step asks of a world, and which events may come.
-ghost use Rattle.std.specs.Prelude.{◌≡◌, ◌<◌, ◌≤◌, ◌^◌, ℕ, List, IsTrue, IfSome, None, length, slice_index_or, false, true, Bool};
+ghost use Rattle.std.specs.Prelude.{◌≡◌, ◌<◌, ◌≤◌, ◌^◌, ℕ, List, IsTrue, IfSome, Option, None, length, slice_index_or, false};
 ghost use Rattle.ring_model.specs.Messages.{Ring, Member as member};
 ghost use Rattle.ring_model.specs.World as model;
 ghost use Rattle.ring_model.specs.World.{world, MayHappen};
@@ -131,11 +131,11 @@ impl<N: Node> World<N> {
 
     // Whether a member is one of the world that is faulty.
     fn is_faulty(&self, i: MemberId) -> bool
-        ensures yes { IsTrue result → (d : Bool) → slice_index_or self.now.members.faulty.items i.0 d ≡ true }
-        ensures no { result ≡ false → i.0 < length self.now.members.nodes.items → ((d : Bool) → slice_index_or self.now.members.faulty.items i.0 d ≡ true) → ⊥ }
+        ensures yes { IsTrue result → (d : Option N) → slice_index_or self.now.members.nodes.items i.0 d ≡ None }
+        ensures no { result ≡ false → i.0 < length self.now.members.nodes.items → ((d : Option N) → slice_index_or self.now.members.nodes.items i.0 d ≡ None) → ⊥ }
     {
-        match self.members.faulty.get(i.0 as usize) {
-            Some(faulty) => *faulty,
+        match self.members.nodes.get(i.0 as usize) {
+            Some(node) => node.is_none(),
             None => false,
         }
     }

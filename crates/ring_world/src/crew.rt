@@ -1,11 +1,12 @@
 // What members do with letters.
-ghost use Rattle.std.specs.Prelude.{◌≡◌, List, map, OnOk, IfOk, true, false, slice_index_or, length};
-ghost use Rattle.std.specs.List.{AllByRecursion, list_all};
+ghost use Rattle.std.specs.Prelude.{◌≡◌, List, map, OnOk, IfOk, IsTrue, is_some};
+ghost use Rattle.std.specs.List.{AllByRecursion, list_any};
 ghost use Rattle.block_names.specs.Growth.{Keeps};
 ghost use Rattle.ring_model.specs.Messages.{Member as member};
 ghost use Rattle.message_model.specs.Meaning.{who, letter, packet};
 ghost use Rattle.ring_model.specs.Seats.{IsSeat};
 ghost use Rattle.ring_world.specs.Crew.{AreMembers, NodesKnown, ForLetter, with_letter, owed_for};
+ghost use Rattle.ring_world.specs.Nodes.{HasNode};
 ghost use Rattle.message_model.specs.Naming.{named_for};
 ghost use Rattle.client_core.specs.Naming.{Names};
 
@@ -36,21 +37,24 @@ impl<N: Node> Members<N> {
         ensures names { ForLetter N.stands H.naming self.old from to.0 (λ g got archived. Names H.naming (named_for g (member to.0) (got (member to.0)) (letter from bytes.now)) book.old.held book.new.held result) }
     {
         let at = to.0 as usize;
-        if at >= self.faulty.len() || self.faulty[at] {
+        if at >= self.nodes.len() {
             return Ok(Vec::new(alloc));
         }
-        let out = self.nodes[at].take(book, from, bytes)?;
+        let Some(node) = &mut self.nodes[at] else {
+            return Ok(Vec::new(alloc));
+        };
+        let out = node.take(book, from, bytes)?;
         Ok(out)
     }
 }
 
 // The number of the first member that is correct, where there is one.
-pub(crate) fn first_correct(faulty: &[bool]) -> usize
-    requires { list_all (λ b. b) faulty.now ≡ false }
-    ensures { slice_index_or faulty.now result true ≡ false }
+pub(crate) fn first_correct<N>(nodes: &[Option<N>]) -> usize
+    requires { IsTrue (list_any is_some nodes.now) }
+    ensures { HasNode nodes.now result }
 {
     let mut at = 0;
-    while at < faulty.len() && faulty[at] {
+    while at < nodes.len() && nodes[at].is_none() {
         at += 1;
     }
     at

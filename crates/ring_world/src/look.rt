@@ -1,5 +1,5 @@
 // What a world tells.
-ghost use Rattle.std.specs.Prelude.{◌≡◌, ℕ, suc, false, ◌+◌, ◌-◌, ◌*◌, ◌<◌, ◌≤◌, ◌==◌, not, List, map, filter, find, count_by, length, slice_get, option_map, IfSome, is_some, Some, None, Contains};
+ghost use Rattle.std.specs.Prelude.{◌≡◌, ℕ, suc, false, ◌+◌, ◌-◌, ◌*◌, ◌<◌, ◌≤◌, ◌==◌, not, List, map, filter, find, count_by, length, slice_get, slice_index_or, option_map, IfSome, is_some, Some, None, Contains};
 ghost use Rattle.std.specs.List.{AllByRecursion};
 ghost use Rattle.std.specs.Option.{option_copied};
 ghost use Rattle.circular_buffer.specs.Buffer.{keep_last};
@@ -13,6 +13,7 @@ ghost use Rattle.ring_world.specs.Bests.{IsBest};
 ghost use Rattle.ring_world.specs.Bound.{PlacesFit};
 ghost use Rattle.block_names.specs.Held.{Held};
 ghost use Rattle.ring_world.specs.Crew.{AreMembers, NodesKnown};
+ghost use Rattle.ring_world.specs.Nodes.{HasNode};
 ghost use Rattle.ring_model.specs.Deliveries.{deliveries};
 ghost use Rattle.message_model.specs.Told.{told, counted};
 ghost use Rattle.ring_world.specs.Worlds.{WorldStands, IsKnown, LabelsHeld, ForEvents};
@@ -93,11 +94,8 @@ impl<N: Node> World<N> {
         agrees();
         only_submitted();
         held_by_many();
-        let at = i.0 as usize;
-        if at >= self.members.faulty.len() || self.members.faulty[at] {
-            return None;
-        }
-        self.members.nodes.get(at)
+        let node = self.members.nodes.get(i.0 as usize)?;
+        node.as_ref()
     }
 
     /// The correct node whose executed list is the longest, the lowest of these: that of the committed
@@ -139,14 +137,14 @@ impl<N: Node> Members<N> {
         ensures known { (h : List ℕ → List ℕ) (held : Held) → NodesKnown N.knows h held self.now → N.knows h held result.now }
     {
         match self.best() {
-            Some(best) => &self.nodes[best],
-            None => &self.nodes[self.correct],
+            Some(best) => self.node(best),
+            None => self.node(self.correct),
         }
     }
 
     // Its number.
     fn best(&self) -> Option<usize>
-        ensures within { IfSome result (λ best. best < length self.now.nodes.items) }
+        ensures there { IfSome result (HasNode self.now.nodes.items) }
         ensures best { (g : Ring) (got : Who → List Letter) (archived : ℕ → ℕ) → AreMembers N.stands g self.now got archived → IsBest g got 0 (3 * g.f + 1) result }
     {
         let mut best: Option<usize> = None;
@@ -161,17 +159,25 @@ impl<N: Node> Members<N> {
     // The better of this member and the best of those above it.
     fn better(&self, at: usize, best: Option<usize>) -> Option<usize>
         requires here { at < length self.now.nodes.items }
-        requires within { IfSome best (λ best. best < length self.now.nodes.items) }
-        ensures within { IfSome result (λ best. best < length self.now.nodes.items) }
+        requires there { IfSome best (HasNode self.now.nodes.items) }
+        ensures there { IfSome result (HasNode self.now.nodes.items) }
         ensures best { (g : Ring) (got : Who → List Letter) (archived : ℕ → ℕ) (n : ℕ) → AreMembers N.stands g self.now got archived → at + suc n ≡ 3 * g.f + 1 → IsBest g got (at + 1) n best → IsBest g got at (suc n) result }
     {
-        if self.faulty[at] {
+        let Some(node) = &self.nodes[at] else {
             return best;
-        }
+        };
         match best {
-            Some(other) if self.nodes[at].executed() < self.nodes[other].executed() => Some(other),
+            Some(other) if node.executed() < self.node(other).executed() => Some(other),
             _ => Some(at),
         }
+    }
+
+    // The node of a member that has one.
+    fn node(&self, at: usize) -> &N
+        requires { HasNode self.now.nodes.items at }
+        ensures { slice_index_or self.now.nodes.items at None ≡ Some result.now }
+    {
+        self.nodes[at].as_ref().unwrap()
     }
 }
 

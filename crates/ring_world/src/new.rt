@@ -1,6 +1,6 @@
 // A world's start.
-ghost use Rattle.std.specs.Prelude.{◌≡◌, ◌<◌, ◌≤◌, ◌+◌, ◌*◌, ℕ, List, [], IfOk, length, false, slice_index_or};
-ghost use Rattle.std.specs.List.{list_all};
+ghost use Rattle.std.specs.Prelude.{◌≡◌, ◌<◌, ◌≤◌, ◌+◌, ◌*◌, ℕ, List, [], Option, IfOk, IfSome, IsTrue, is_some, length, false, slice_index_or};
+ghost use Rattle.std.specs.List.{list_any};
 ghost use Rattle.block_names.specs.Held.{Held};
 ghost use Rattle.ring_model.specs.Messages.{Ring};
 ghost use Rattle.client_core.specs.declared.client.Client.{Client};
@@ -19,36 +19,31 @@ use ring_node::Node;
 use std::alloc::Global;
 
 impl<N: Node> World<N> {
-    /// The world of these nodes before any event. There is a node for each member, of a faulty one too,
-    /// which is never asked; `faulty` says which members are faulty, and some member is correct. At most f
-    /// of the 3f + 1 members are to be faulty, as the clients believe what f + 1 members say.
+    /// The world of these nodes before any event. There is a place for each member, in the order of their
+    /// numbers, with the node of a correct one and `None` exactly for a faulty one, which never has a node;
+    /// some member is correct. At most f of the 3f + 1 members are to be faulty, as the clients believe what
+    /// f + 1 members say.
     pub fn new(
         alloc: Global,
-        nodes: Vec<N>,
-        faulty: Vec<bool>,
+        nodes: Vec<Option<N>>,
         f: u8,
         clients: u8,
     ) -> Result<World<N>, OutOfMemory>
         requires few { (f ≤ 3) × (clients ≤ 16) }
         requires count { length nodes.items ≡ 3 * f + 1 }
-        requires flags { length nodes.items ≡ length faulty.items }
-        requires correct { list_all (λ b. b) faulty.items ≡ false }
-        ensures stands { IfOk result (λ world. (g : Ring) → IsStart N.stands g nodes.items faulty.items clients → WorldStands N.stands g world []) }
-        ensures known { IfOk result (λ world. (h : List ℕ → List ℕ) (held : Held) → ((i : ℕ) (d : N) → i < length nodes.items → N.knows h held (slice_index_or nodes.items i d)) → IsKnown N.knows h held world) }
+        requires correct { IsTrue (list_any is_some nodes.items) }
+        ensures stands { IfOk result (λ world. (g : Ring) → IsStart N.stands g nodes.items clients → WorldStands N.stands g world []) }
+        ensures known { IfOk result (λ world. (h : List ℕ → List ℕ) (held : Held) → ((i : ℕ) (d : Option N) → i < length nodes.items → IfSome (slice_index_or nodes.items i d) (N.knows h held)) → IsKnown N.knows h held world) }
         ensures going { IfOk result (λ world. world.ended ≡ false) }
         ensures skips { IfOk result (λ world. PassNothing (skips world)) }
     {
         let clients = clients_of(alloc, f, clients)?;
         let mail = Mail::new(alloc)?;
         let recent = HeapCircularBuffer::with_capacity(alloc, 8)?;
-        let correct = first_correct(&faulty);
+        let correct = first_correct(&nodes);
         Ok(World {
             alloc,
-            members: Members {
-                nodes,
-                faulty,
-                correct,
-            },
+            members: Members { nodes, correct },
             clients,
             mail,
             recent,

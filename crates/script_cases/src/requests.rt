@@ -1,7 +1,7 @@
 // The name of a guard's leaf, by SHA-1 of 01 and the content, as another program computes it.
 ghost use Rattle.std.specs.Prelude.{IfOk};
 ghost use Rattle.std.specs.List.{AllByRecursion};
-ghost use Rattle.script_limits.specs.Limits.{GuardFits};
+ghost use Rattle.script_laws.specs.Limits.{GuardFits};
 
 use block_names::{Book, Sha1Hash};
 use bytes::Bytes;

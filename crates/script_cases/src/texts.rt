@@ -25,7 +25,7 @@ const VERBS: &[(&str, &str)] = &[
     ("pond 1\nfaulty0\n", "2 verb"),
     ("pond 1\nring 0\ncode 1 2\n", "3 verb"),
     ("pond 1\nring 0\nreplica 0 member 0 cache 1\n", "3 verb"),
-    ("pond 1\nring 0\ncut member 0\n", "3 verb"),
+    ("pond 1\nring 0\ncuts member 0\n", "3 verb"),
     ("pond 1\nring 0\npush 0 a\n", "3 verb"),
     ("pond 1\nring 0\nreadat 0 a 0 4\n", "3 verb"),
     ("pond 1\nring 0\nlook 0 a 1\n", "3 verb"),

@@ -2,9 +2,9 @@
 use guarded_update::Action;
 use pond_base::{Items, Label, Name};
 use script_terms::{LineClause, LineFault};
-use script_update::{clauses, groups};
 use script_words::{
-    PartyNumber, data, is_comment, is_plain_line, label, name, number, party, split_line, words,
+    PartyNumber, clauses, data, groups, is_comment, is_plain_line, label, name, number, party,
+    split_line, words,
 };
 use std::alloc::Global;
 use std::test::Fail;

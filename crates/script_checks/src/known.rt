@@ -4,7 +4,8 @@ ghost use Rattle.script_terms.specs.declared.cause.Cause.TheVariants as causes;
 ghost use Rattle.script_grammar.specs.Results.{Gives, where_holds};
 ghost use Rattle.script_grammar.specs.Known as spec;
 ghost use Rattle.script_grammar.specs.Script.{setup_by, home_of, homes_by};
-ghost use Rattle.script_grammar.specs.Steps.{is_member, is_client, is_faulty, has_home, has_sent, is_seq, in_order, in_range, may_repeat, has_room};
+ghost use Rattle.script_grammar.specs.Asks.{is_member, is_client, is_faulty, has_home, has_sent, is_seq};
+ghost use Rattle.script_grammar.specs.Steps.{in_order, in_range, may_repeat, has_room};
 ghost use Rattle.script_checks.specs.Next.{next, named_after};
 
 use guarded_update::{Place, Setup};

@@ -4,6 +4,7 @@ ghost use Rattle.std.specs.List.{list_all};
 ghost use Rattle.script_terms.specs.declared.line.LineClause.{LineClause};
 ghost use Rattle.script_terms.specs.declared.cause.Cause.TheVariants as causes;
 ghost use Rattle.script_grammar.specs.Results.{Gives, where_holds};
+ghost use Rattle.script_grammar.specs.Asks as asked;
 ghost use Rattle.script_grammar.specs.Steps as spec;
 
 use guarded_update::Action;
@@ -14,7 +15,7 @@ use script_terms::{LineClause, LineFault, LineGuard, refused};
 /// The clauses of an update, which are out of range where a splice or delete neither takes out nor puts
 /// in anything.
 pub fn changing(clauses: Items<LineClause>) -> Result<Items<LineClause>, LineFault>
-    ensures { Gives (λ x. x) result (where_holds (list_all (λ (c : LineClause). list_all spec.changes c.actions) clauses) causes.Range clauses) }
+    ensures { Gives (λ x. x) result (where_holds (list_all (λ (c : LineClause). list_all asked.changes c.actions) clauses) causes.Range clauses) }
 {
     if has_changes(clauses.as_slice()) {
         Ok(clauses)
@@ -37,7 +38,7 @@ pub fn in_size(clauses: Items<LineClause>) -> Result<Items<LineClause>, LineFaul
 
 // Whether each splice takes out or puts in something.
 fn has_changes(clauses: &[LineClause]) -> bool
-    ensures { result ≡ list_all (λ (c : LineClause). list_all spec.changes c.actions) clauses.now }
+    ensures { result ≡ list_all (λ (c : LineClause). list_all asked.changes c.actions) clauses.now }
 {
     clauses
         .iter()
@@ -45,13 +46,13 @@ fn has_changes(clauses: &[LineClause]) -> bool
 }
 
 fn are_changes(actions: &[Action]) -> bool
-    ensures { result ≡ list_all spec.changes actions.now }
+    ensures { result ≡ list_all asked.changes actions.now }
 {
     actions.iter().all(|action| is_change(action))
 }
 
 fn is_change(action: &Action) -> bool
-    ensures { result ≡ spec.changes action.now }
+    ensures { result ≡ asked.changes action.now }
 {
     match action {
         Action::Splice {

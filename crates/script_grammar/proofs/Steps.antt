@@ -13,7 +13,7 @@ use Rattle.script_grammar.specs.Results.{◌>>=◌, or_cause, where_holds}
 use Rattle.script_grammar.specs.Classes.{number_at, label_at, party_at, name_at, data_at}
 use Rattle.script_grammar.specs.Forms.{Slot, Fixed, Number, Label, PartyWord, Name, Data, Makes, Form, forms, made, has_fixed, said_by, submit_of, said, verb_of}
 use Rattle.script_grammar.specs.Update.{groups_of, clauses_of}
-use Rattle.script_grammar.specs.Known.{Known, known, rank}
+use Rattle.script_grammar.specs.Known.{known, rank}
 use Rattle.script_grammar.specs.Steps.{rank_of, in_order, in_range, in_size, item_of, Fits}
 
 pub bind_ok : {A B : Type 0} (r : Result A Cause) (f : A → Result B Cause) (y : B) → (r >>= f) ≡ Ok y → (x : A) × (r ≡ Ok x) × (f x ≡ Ok y)
@@ -89,24 +89,10 @@ submit_says (client ∷ label ∷ words) item e =
     let d = bind_ok (clauses_of a.0) (λ u. Ok (Event (Submit (record { 0 = b.0 }) c.0 u))) item c.2 in
     record { rest = words; groups = a.0; client = b.0; label = c.0; clauses = d.0; grouped = or_ok causes.Words (groups_of words) a.0 a.1; read = d.1; item_is = cc }
 
+-- what a verb's words give has its rank
 said_rank : (verb : Verb) (words : List (List ℕ)) (item : Item) → said verb words ≡ Ok item → rank item ≡ rank_of verb
-said_rank verbs.Pond words item e = by_form (λ x. rank x ≡ 1) (forms verbs.Pond) words item (refl, tt) e
-said_rank verbs.Ring words item e = by_form (λ x. rank x ≡ 2) (forms verbs.Ring) words item (λ _. refl, tt) e
-said_rank verbs.Faulty words item e = by_form (λ x. rank x ≡ 3) (forms verbs.Faulty) words item (λ _. refl, tt) e
-said_rank verbs.Block words item e = by_form (λ x. rank x ≡ 4) (forms verbs.Block) words item (λ _. refl, tt) e
-said_rank verbs.Clients words item e = by_form (λ x. rank x ≡ 6) (forms verbs.Clients) words item (λ _. refl, tt) e
-said_rank verbs.Home words item e = by_form (λ x. rank x ≡ 8) (forms verbs.Home) words item (λ _ _. refl, tt) e
 said_rank verbs.Submit words item e = ap rank (sym (submit_says words item e).item_is)
-said_rank verbs.Resubmit words item e = by_form (λ x. rank x ≡ 9) (forms verbs.Resubmit) words item (λ _ _. refl, tt) e
-said_rank verbs.Deliver words item e = by_form (λ x. rank x ≡ 9) (forms verbs.Deliver) words item (λ _ _ _. refl, tt) e
-said_rank verbs.Lose words item e = by_form (λ x. rank x ≡ 9) (forms verbs.Lose) words item (λ _ _ _. refl, tt) e
-said_rank verbs.Settle words item e = by_form (λ x. rank x ≡ 9) (forms verbs.Settle) words item (refl, tt) e
-said_rank verbs.Mute words item e = by_form (λ x. rank x ≡ 9) (forms verbs.Mute) words item (λ _. refl, tt) e
-said_rank verbs.Unmute words item e = by_form (λ x. rank x ≡ 9) (forms verbs.Unmute) words item (λ _. refl, tt) e
-said_rank verbs.Forge words item e =
-    by_form (λ x. rank x ≡ 9) (forms verbs.Forge) words item (λ _ _ _ _ _. refl, (λ _ _ _ _ _. refl, (λ _ _ _ _ _. refl, (λ _ _ _ _ _. refl, (λ _ _ _. refl, tt))))) e
-said_rank verbs.Read words item e = by_form (λ x. rank x ≡ 9) (forms verbs.Read) words item (λ _ _. refl, tt) e
-said_rank verbs.Show words item e = by_form (λ x. rank x ≡ 9) (forms verbs.Show) words item (λ _. refl, (λ _. refl, (λ _ _ _. refl, (refl, tt)))) e
+said_rank verb words item e = by_form (λ x. rank x ≡ rank_of verb) (forms verb) words item (search) e
 
 -- an item that words give behind earlier lines: what a verb's words say, and it passed each step
 pub record Passed (earlier : List Item) (words : List (List ℕ)) (item : Item) : Type 0 where

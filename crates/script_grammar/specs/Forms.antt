@@ -7,7 +7,8 @@ use Rattle.script_terms.specs.declared.cause.Cause.TheVariants as causes
 use Rattle.script_terms.specs.declared.declaration.Declaration.TheVariants as declared
 use Rattle.script_terms.specs.declared.item.Item.{Item}
 use Rattle.script_terms.specs.declared.item.Item.TheVariants.{Declared, Event}
-use Rattle.script_terms.specs.declared.line.Line.TheVariants.{Submit, Resubmit, Deliver, Lose, Settle, Mute, Unmute, ForgeOrder, ForgePrepare, ForgeCommit, ForgeHeart, ForgeRaw, Read, ShowMember, ShowClient, ShowVersion, ShowRecent}
+use Rattle.script_terms.specs.declared.line.Line.TheVariants.{Submit, Resubmit, Deliver, Lose, Settle, Mute, Unmute, ForgeOrder, ForgePrepare, ForgeCommit, ForgeHeart, ForgeRaw, Cut, Mend, Read, ShowMember, ShowClient, ShowVersion, ShowRecent}
+use Rattle.script_terms.specs.declared.line.Spot.TheVariants as spots
 use Rattle.script_terms.specs.declared.verb.Verb.{Verb}
 use Rattle.script_terms.specs.declared.verb.Verb.TheVariants as verbs
 use Rattle.script_grammar.specs.Results.{◌>>=◌, or_cause}
@@ -31,9 +32,11 @@ verb_of word =
     else (if bytes_eq word (codes "mute") then Some verbs.Mute
     else (if bytes_eq word (codes "unmute") then Some verbs.Unmute
     else (if bytes_eq word (codes "forge") then Some verbs.Forge
+    else (if bytes_eq word (codes "cut") then Some verbs.Cut
+    else (if bytes_eq word (codes "mend") then Some verbs.Mend
     else (if bytes_eq word (codes "read") then Some verbs.Read
     else (if bytes_eq word (codes "show") then Some verbs.Show
-    else None)))))))))))))))
+    else None)))))))))))))))))
 
 -- what stands at a place of a form: a fixed word, or any word of a class
 pub data Slot : Type 0 where
@@ -85,6 +88,8 @@ forms verbs.Forge =
     ∷ record { slots = Number ∷ PartyWord ∷ Fixed (codes "heart") ∷ Label ∷ Number ∷ Name ∷ []; make = λ member to label version name. Event (ForgeHeart (record { 0 = member }) to label (record { 0 = version }) name) }
     ∷ record { slots = Number ∷ PartyWord ∷ Fixed (codes "raw") ∷ Data ∷ []; make = λ member to content. Event (ForgeRaw (record { 0 = member }) to content) }
     ∷ []
+forms verbs.Cut = record { slots = Fixed (codes "member") ∷ Number ∷ []; make = λ member. Event (Cut (spots.Member (record { 0 = member }))) } ∷ []
+forms verbs.Mend = record { slots = Fixed (codes "member") ∷ Number ∷ []; make = λ member. Event (Mend (spots.Member (record { 0 = member }))) } ∷ []
 forms verbs.Read = record { slots = Number ∷ Label ∷ []; make = λ client label. Event (Read (record { 0 = client }) label) } ∷ []
 forms verbs.Show =
     record { slots = Fixed (codes "member") ∷ Number ∷ []; make = λ member. Event (ShowMember (record { 0 = member })) }

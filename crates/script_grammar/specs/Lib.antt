@@ -5,6 +5,7 @@ pub mod Update
 pub mod Forms
 pub mod Known
 pub mod Load
+pub mod Asks
 pub mod Steps
 pub mod Script
 pub mod Worked

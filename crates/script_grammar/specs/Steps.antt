@@ -1,12 +1,8 @@
 -- The eight steps of a line, each of which gives the cause where it fails first.
-use Rattle.std.specs.Prelude.{◌≡◌, ℕ, ◌+◌, ◌*◌, Bool, true, List, [], ◌∷◌, length, nat_le, nat_lt, sum_by, slice_index, ◌==◌, ◌&&◌, ◌||◌, not, if◌then◌else◌, Result, Ok, Err}
-use Rattle.std.specs.List.{list_all, list_any}
+use Rattle.std.specs.Prelude.{◌≡◌, ℕ, ◌+◌, Bool, true, List, [], ◌∷◌, length, nat_le, nat_lt, sum_by, ◌==◌, ◌&&◌, ◌||◌, not, if◌then◌else◌, Result, Ok, Err}
+use Rattle.std.specs.List.{list_all}
 use Rattle.guarded_update.specs.declared.update.Action.{Action}
 use Rattle.guarded_update.specs.declared.update.Action.TheVariants.{Replace, Append, Truncate, Splice}
-use Rattle.pond_base.specs.declared.numbers.ClientId.{ClientId}
-use Rattle.pond_base.specs.declared.numbers.MemberId.{MemberId}
-use Rattle.pond_base.specs.declared.numbers.Party.{Party}
-use Rattle.pond_base.specs.declared.numbers.Party.TheVariants.{Member, Client}
 use Rattle.script_terms.specs.declared.cause.Cause.{Cause}
 use Rattle.script_terms.specs.declared.cause.Cause.TheVariants as causes
 use Rattle.script_terms.specs.declared.declaration.Declaration.{Declaration}
@@ -14,7 +10,7 @@ use Rattle.script_terms.specs.declared.declaration.Declaration.TheVariants as de
 use Rattle.script_terms.specs.declared.item.Item.{Item}
 use Rattle.script_terms.specs.declared.item.Item.TheVariants.{Declared, Event}
 use Rattle.script_terms.specs.declared.line.Line.{Line}
-use Rattle.script_terms.specs.declared.line.Line.TheVariants.{Submit, Resubmit, Deliver, Lose, Settle, Mute, Unmute, ForgeOrder, ForgePrepare, ForgeCommit, ForgeHeart, ForgeRaw, Read, ShowMember, ShowClient, ShowVersion, ShowRecent}
+use Rattle.script_terms.specs.declared.line.Line.TheVariants.{Submit}
 use Rattle.script_terms.specs.declared.line.LineClause.{LineClause}
 use Rattle.script_terms.specs.declared.line.LineGuard.{LineGuard}
 use Rattle.script_terms.specs.declared.line.LineGuard.TheVariants.{BlockIs}
@@ -24,6 +20,7 @@ use Rattle.script_grammar.specs.Results.{◌>>=◌, or_cause, where_holds}
 use Rattle.script_grammar.specs.Words.{words_of, is_plain, is_comment}
 use Rattle.script_grammar.specs.Forms.{verb_of, said}
 use Rattle.script_grammar.specs.Known.{Known, known, rank}
+use Rattle.script_grammar.specs.Asks.{is_member, is_client, is_faulty, has_home, all_met, asks}
 use Rattle.script_grammar.specs.Load.{sent, is_borne}
 
 -- the rank of the lines of a verb: declarations have 1 to 8, and events have 9
@@ -44,44 +41,6 @@ may_repeat rank = rank == 3 || rank == 7 || rank == 8 || rank == 9
 abbrev pub in_order : ℕ → ℕ → Bool
 in_order last rank = if nat_lt last 2 then rank == last + 1 else nat_lt last rank || (last == rank && may_repeat rank)
 
--- a number of a member, of which there are 3f + 1
-abbrev pub is_member : Known → ℕ → Bool
-is_member k member = nat_le member (3 * k.ring)
-
--- a number of a client
-abbrev pub is_client : Known → ℕ → Bool
-is_client k client = nat_lt client k.clients
-
--- a member or a client that is declared
-abbrev pub is_party : Known → Party → Bool
-is_party k (Member member) = is_member k member.0
-is_party k (Client client) = is_client k client.0
-
--- a member is declared faulty
-abbrev pub is_faulty : Known → ℕ → Bool
-is_faulty k number = list_any (λ (member : MemberId). member.0 == number) k.faulty
-
--- a client has a declared home
-abbrev pub has_home : Known → ℕ → Bool
-has_home k number = list_any (λ (home : ClientId × MemberId). home.0.0 == number) k.homes
-
--- a client has sent a request of a number, which are counted from 1
-abbrev pub has_sent : Known → ℕ → ℕ → Bool
-has_sent k client number = nat_le 1 number && nat_le number (slice_index k.submits client)
-
--- a sequence number of a slot
-abbrev pub is_seq : ℕ → Bool
-is_seq seq = nat_le 1 seq && nat_le seq 65536
-
--- a faulty member may send to a party a message for a slot, with a client's request of a number
-abbrev pub may_forge : Known → ℕ → Party → ℕ → ℕ → ℕ → Bool
-may_forge k member to seq client number = is_faulty k member && is_party k to && is_seq seq && is_client k client && has_sent k client number
-
--- a splice or delete takes out or puts in something
-abbrev pub changes : Action → Bool
-changes (Splice offset remove content) = nat_le 1 (length content) || nat_le 1 remove
-changes action = true
-
 -- the numbers of a declaration are in range
 abbrev pub declares_in_range : Known → Declaration → Bool
 declares_in_range k declared.Pond = true
@@ -93,23 +52,7 @@ declares_in_range k (declared.Home client member) = is_client k client.0 && is_m
 
 -- the numbers of an event are in range
 abbrev pub line_in_range : Known → Line → Bool
-line_in_range k (Submit client label clauses) = is_client k client.0 && list_all (λ (c : LineClause). list_all changes c.actions) clauses
-line_in_range k (Resubmit client number) = is_client k client.0 && has_sent k client.0 number
-line_in_range k (Deliver sender to place) = is_party k sender && is_party k to && nat_le 1 place
-line_in_range k (Lose sender to place) = is_party k sender && is_party k to && nat_le 1 place
-line_in_range k Settle = true
-line_in_range k (Mute party) = is_party k party
-line_in_range k (Unmute party) = is_party k party
-line_in_range k (ForgeOrder member to seq client number) = may_forge k member.0 to seq.0 client.0 number
-line_in_range k (ForgePrepare member to seq client number) = may_forge k member.0 to seq.0 client.0 number
-line_in_range k (ForgeCommit member to seq client number) = may_forge k member.0 to seq.0 client.0 number
-line_in_range k (ForgeHeart member to label version name) = is_faulty k member.0 && is_party k to && nat_le 1 version.0
-line_in_range k (ForgeRaw member to content) = is_faulty k member.0 && is_party k to
-line_in_range k (Read client label) = is_client k client.0
-line_in_range k (ShowMember member) = is_member k member.0
-line_in_range k (ShowClient client) = is_client k client.0
-line_in_range k (ShowVersion member label version) = is_member k member.0 && nat_le 1 version.0
-line_in_range k ShowRecent = true
+line_in_range k line = all_met k (asks line)
 
 -- the numbers of a line are in range
 abbrev pub in_range : Known → Item → Bool

@@ -2,9 +2,9 @@
 //!
 //! It stands on the types of script_terms. `Script` says what a text is from its bytes alone: the script
 //! of its lines, or the first line with a fault and its cause. `Steps` has the eight steps of a line,
-//! weighed against the list of the lines before it; `Forms` has the table of the forms of each verb,
-//! `Update` the grammar of an update, `Words` the classes of words, `Known` and `Load` what earlier lines
-//! declared and sent. The functions below have no code: their contracts are worked texts, computed by
+//! weighed against the list of the lines before it; `Forms` has the table of the forms of each verb, `Asks`
+//! what each event asks of those lines, `Update` the grammar of an update, `Words` the classes of words,
+//! `Known` and `Load` what earlier lines declared and sent. The functions below have no code: their contracts are worked texts, computed by
 //! the definitions. The crates above read exactly this.
 #![tactic(auto)]
 
@@ -13,8 +13,9 @@ ghost use Rattle.guarded_update.specs.declared.setup.Place.TheVariants as places
 ghost use Rattle.guarded_update.specs.declared.update.Action.TheVariants.{Append, Replace, Truncate, Splice};
 ghost use Rattle.script_terms.specs.declared.cause.Cause.TheVariants as causes;
 ghost use Rattle.pond_base.specs.declared.numbers.Party.TheVariants.{Member, Client};
-ghost use Rattle.script_terms.specs.declared.line.Line.TheVariants.{Submit, Resubmit, Deliver, Lose, Settle, Mute, Unmute, ForgeOrder, ForgePrepare, ForgeCommit, ForgeHeart, ForgeRaw, Read, ShowMember, ShowClient, ShowVersion, ShowRecent};
+ghost use Rattle.script_terms.specs.declared.line.Line.TheVariants.{Submit, Resubmit, Deliver, Lose, Settle, Mute, Unmute, ForgeOrder, ForgePrepare, ForgeCommit, ForgeHeart, ForgeRaw, Cut, Mend, Read, ShowMember, ShowClient, ShowVersion, ShowRecent};
 ghost use Rattle.script_terms.specs.declared.line.LineGuard.TheVariants.{VersionIs, SizeIs, BlockIs};
+ghost use Rattle.script_terms.specs.declared.line.Spot.TheVariants as spots;
 ghost use Rattle.script_grammar.specs.Worked.{IsRefused, IsScript};
 
 /// Each step has its cause, and a line that fails at two steps has the cause of the first of them.
@@ -115,6 +116,16 @@ pub fn clients_are_shown()
     ensures words { IsRefused 3 causes.Words (codes "pond 1" ∷ codes "ring 0" ∷ codes "show client" ∷ []) }
 {}
 
+/// A member is cut off, and reached again, by its number.
+pub fn members_are_cut()
+    ensures range { IsRefused 3 causes.Range (codes "pond 1" ∷ codes "ring 1" ∷ codes "cut member 4" ∷ []) }
+    ensures mended { IsRefused 3 causes.Range (codes "pond 1" ∷ codes "ring 1" ∷ codes "mend member 4" ∷ []) }
+    ensures word { IsRefused 3 causes.Word (codes "pond 1" ∷ codes "ring 1" ∷ codes "cut member m0" ∷ []) }
+    ensures words { IsRefused 3 causes.Words (codes "pond 1" ∷ codes "ring 1" ∷ codes "cut member" ∷ []) }
+    ensures place { IsRefused 3 causes.Words (codes "pond 1" ∷ codes "ring 1" ∷ codes "cut client 0" ∷ []) }
+    ensures late { IsRefused 4 causes.Order (codes "pond 1" ∷ codes "ring 1" ∷ codes "cut member 0" ∷ codes "clients 2" ∷ []) }
+{}
+
 /// A script of the forms of one member.
 pub fn built_forms()
     ensures { IsScript
@@ -159,13 +170,15 @@ pub fn forms_of_rings()
               ∷ (14, ForgeCommit (record { 0 = 3 }) (Client (record { 0 = 0 })) (record { 0 = 2 }) (record { 0 = 1 }) 1)
               ∷ (15, ForgeHeart (record { 0 = 3 }) (Client (record { 0 = 1 })) (codes "a") (record { 0 = 1 }) (0 ∷ 17 ∷ 34 ∷ 51 ∷ 68 ∷ 85 ∷ 102 ∷ 119 ∷ 136 ∷ 153 ∷ 170 ∷ 187 ∷ 204 ∷ 221 ∷ 238 ∷ 255 ∷ 1 ∷ 35 ∷ 69 ∷ 103 ∷ []))
               ∷ (16, ForgeRaw (record { 0 = 3 }) (Client (record { 0 = 1 })) (0 ∷ 255 ∷ []))
-              ∷ (17, ShowMember (record { 0 = 3 }))
-              ∷ (18, ShowClient (record { 0 = 1 }))
-              ∷ (19, ShowRecent)
+              ∷ (17, Cut (spots.Member (record { 0 = 2 })))
+              ∷ (18, Mend (spots.Member (record { 0 = 2 })))
+              ∷ (19, ShowMember (record { 0 = 3 }))
+              ∷ (20, ShowClient (record { 0 = 1 }))
+              ∷ (21, ShowRecent)
               ∷ [];
         })
         (codes "pond 1" ∷ codes "ring 1" ∷ codes "faulty 3" ∷ codes "clients 2" ∷ codes "home 1 member 3" ∷ codes "submit 1 a append 61" ∷ codes "resubmit 1 1"
         ∷ codes "deliver c1 m0 1" ∷ codes "lose m0 m3 4294967295" ∷ codes "mute m3" ∷ codes "unmute c0" ∷ codes "forge 3 m1 order 1 1 1" ∷ codes "forge 3 m2 prepare 65536 1 1"
         ∷ codes "forge 3 c0 commit 2 1 1" ∷ codes "forge 3 c1 heart a 1 00112233445566778899aAbBcCdDeEfF01234567" ∷ codes "forge 3 c1 raw 00fF"
-        ∷ codes "show member 3" ∷ codes "show client 1" ∷ codes "show recent" ∷ []) }
+        ∷ codes "cut member 2" ∷ codes "mend member 2" ∷ codes "show member 3" ∷ codes "show client 1" ∷ codes "show recent" ∷ []) }
 {}

@@ -2,7 +2,7 @@
 ghost use Rattle.std.specs.Prelude.{◌≡◌, Contains, IfOk, IfErr, OnOk, map};
 ghost use Rattle.std.specs.List.{AllByRecursion, flat_map};
 ghost use Rattle.block_names.specs.Growth.{Grew, IsClashIn};
-ghost use Rattle.script_limits.specs.Limits.{GuardFits};
+ghost use Rattle.script_laws.specs.Limits.{GuardFits};
 ghost use Rattle.script_terms.specs.declared.line.LineClause.{LineClause};
 ghost use Rattle.text_model.specs.Requests as model;
 ghost use Rattle.text_model.specs.Named.{guard_strings, clause_strings};

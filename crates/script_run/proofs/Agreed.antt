@@ -5,13 +5,13 @@ use Rattle.guarded_update.specs.Spelling.{request_string}
 use Rattle.pond_world.specs.Sites.{SiteView}
 use Rattle.ring_model.specs.Laws.{NoClash}
 use Rattle.ring_mail.specs.Skips.{Skips}
-use Rattle.script_agreement.specs.Laws.{ListsAreOne, BeliefsHold}
-use Rattle.script_agreement.specs.OneList.{IsOneList}
-use Rattle.script_agreement.specs.Beliefs.{BeliefsAreTrue}
-use Rattle.script_events.specs.Laws.{SubmitsAreRequests}
-use Rattle.script_limits.specs.Limits.{SetupFits}
-use Rattle.script_names.proofs.Elements.{in_map, in_reverse}
-use Rattle.script_names.proofs.Lines.{request_named}
+use Rattle.script_laws.specs.AgreementLaws.{ListsAreOne, BeliefsHold}
+use Rattle.script_laws.specs.OneList.{IsOneList}
+use Rattle.script_laws.specs.Beliefs.{BeliefsAreTrue}
+use Rattle.script_laws.specs.EventLaws.{SubmitsAreRequests}
+use Rattle.script_laws.specs.Limits.{SetupFits}
+use Rattle.script_laws.proofs.Elements.{in_map, in_reverse}
+use Rattle.script_laws.proofs.Requested.{request_named}
 use Rattle.script_requests.proofs.Holds.{held_clear}
 use Rattle.script_terms.specs.declared.script.Script.{Script}
 use Rattle.text_model.specs.Events.{ring_for, world_of}

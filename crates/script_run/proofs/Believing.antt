@@ -20,8 +20,8 @@ use Rattle.pond_world.specs.Sites.{SiteView}
 use Rattle.ring_mail.specs.Skips.{Skips}
 use Rattle.script_terms.specs.declared.script.Script.{Script}
 use Rattle.script_terms.specs.declared.line.Line.TheVariants.{Read, ShowClient}
-use Rattle.script_limits.specs.Limits.{IsClient as IsDeclared}
-use Rattle.script_events.specs.Laws.{CountsJoin}
+use Rattle.script_laws.specs.Limits.{IsClient as IsDeclared}
+use Rattle.script_laws.specs.EventLaws.{CountsJoin}
 use Rattle.text_model.specs.Requests.{Numbered, count_of, submitted}
 use Rattle.text_model.specs.Events.{ring_for, world_of}
 use Rattle.text_model.specs.Believed.{believed_heart, believed_outcome, letters_of}

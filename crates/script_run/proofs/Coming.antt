@@ -7,8 +7,8 @@ use Rattle.ring_world.specs.declared.event.Event.{Event}
 use Rattle.ring_mail.specs.Skips.{Skips}
 use Rattle.ring_world.specs.Conditions.{MayStep}
 use Rattle.ring_world.specs.Worlds.{event_of}
-use Rattle.script_events.specs.Laws.{RingIsSound, EventsComeOfLines}
-use Rattle.script_limits.specs.Turns.{LinesFitInTurn}
+use Rattle.script_laws.specs.EventLaws.{RingIsSound, EventsComeOfLines}
+use Rattle.script_laws.specs.Turns.{LinesFitInTurn}
 use Rattle.script_terms.specs.declared.line.Line.{Line}
 use Rattle.script_terms.specs.declared.script.Script.{Script}
 use Rattle.text_model.specs.Events.{ring_for, events_of, world_of}

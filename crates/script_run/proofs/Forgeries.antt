@@ -1,12 +1,14 @@
 -- What faulty members send, and the requests that they take for it.
 use Rattle.std.proofs.Common.{◌≡◌, ◌<◌, ◌-◌, ◌==◌, ℕ, Option, List, ◌++◌, filter, reverse, Contains, ◌+◌, slice_get, Some, refl, sym, ◌∙◌, ap, subst}
 use Rattle.std.specs.FinMap as map
+use Rattle.std.specs.List.{AllByRecursion as Each}
 use Rattle.std.proofs.lemmas.List.Elements.{Contains-append_left}
 use Rattle.block_names.specs.Held.{Held}
 use Rattle.block_names.specs.Growth.{Grew, IsClashIn}
 use Rattle.block_names.proofs.Grown.{held_same}
 use Rattle.block_names.specs.declared.fault.NameFault.{NameFault}
 use Rattle.guarded_update.specs.Spelling.{request_string}
+use Rattle.guarded_update.specs.declared.setup.Setup.{Setup}
 use Rattle.message_model.specs.Laws.{MessagesAreMeant}
 use Rattle.message_model.specs.Meaning.{meaning, said}
 use Rattle.pond_base.specs.declared.numbers.ClientId.{ClientId}
@@ -29,17 +31,18 @@ use Rattle.ring_world.specs.declared.event.Event.TheVariants as event
 use Rattle.ring_mail.specs.Skips.{Skips}
 use Rattle.ring_world.specs.Worlds.{WorldStands}
 use Rattle.ring_world.specs.declared.state.World.{World}
-use Rattle.script_events.specs.Events.{IsEventOf}
-use Rattle.script_events.specs.Laws.{AskedIsThere}
-use Rattle.script_events.proofs.Submits.{submits_are_requests}
-use Rattle.script_limits.specs.Limits.{HasSent, LineFits}
-use Rattle.script_limits.specs.Turns.{LinesFitInTurn}
-use Rattle.script_names.proofs.Elements.{in_map, in_reverse}
-use Rattle.script_names.proofs.Lines.{request_named}
+use Rattle.script_laws.specs.Events.{IsEventOf}
+use Rattle.script_laws.specs.EventLaws.{AskedIsThere}
+use Rattle.script_laws.proofs.Submits.{submits_are_requests}
+use Rattle.script_laws.specs.Limits.{HasSent, LineFits, Meets}
+use Rattle.script_laws.specs.Turns.{LinesFitInTurn}
+use Rattle.script_laws.proofs.Elements.{in_map, in_reverse}
+use Rattle.script_laws.proofs.Requested.{request_named}
+use Rattle.script_grammar.specs.Asks.{slot_asks}
 use Rattle.script_requests.specs.Holding.{HoldsJust, IsClashOf}
 use Rattle.script_requests.proofs.Holds.{clash_more}
 use Rattle.script_terms.specs.declared.line.Line.{Line}
-use Rattle.script_terms.specs.declared.line.Line.TheVariants.{Submit, Resubmit, Deliver, Lose, Settle, Mute, Unmute, ForgeOrder, ForgePrepare, ForgeCommit, ForgeHeart, ForgeRaw, Read, ShowMember, ShowClient, ShowVersion, ShowRecent}
+use Rattle.script_terms.specs.declared.line.Line.TheVariants.{ForgeOrder, ForgePrepare, ForgeCommit, ForgeHeart, ForgeRaw}
 use Rattle.script_terms.specs.declared.script.Script.{Script}
 use Rattle.text_model.specs.Events.{ring_for, world_of, events_of, asked_string}
 use Rattle.text_model.specs.Named.{named, line_strings}
@@ -114,19 +117,7 @@ forgery_event h script earlier (ForgeCommit by whom seq client number) member to
     (bytes, ap (λ b. event.Forge b to bytes) (sym f.0) ∙ ap (λ w. event.Forge by w bytes) (sym f.1), means ∙ f.2)
 forgery_event h script earlier (ForgeHeart by whom label version name) member to sent bytes f means =
     (bytes, ap (λ b. event.Forge b to bytes) (sym f.0) ∙ ap (λ w. event.Forge by w bytes) (sym f.1), means ∙ f.2)
-forgery_event h script earlier (ForgeRaw by whom content) member to sent bytes f means = absurd f
-forgery_event h script earlier (Submit client label clauses) member to sent bytes f means = absurd f
-forgery_event h script earlier (Resubmit client number) member to sent bytes f means = absurd f
-forgery_event h script earlier (Deliver sender whom place) member to sent bytes f means = absurd f
-forgery_event h script earlier (Lose sender whom place) member to sent bytes f means = absurd f
-forgery_event h script earlier Settle member to sent bytes f means = absurd f
-forgery_event h script earlier (Mute party) member to sent bytes f means = absurd f
-forgery_event h script earlier (Unmute party) member to sent bytes f means = absurd f
-forgery_event h script earlier (Read client label) member to sent bytes f means = absurd f
-forgery_event h script earlier (ShowMember other) member to sent bytes f means = absurd f
-forgery_event h script earlier (ShowClient client) member to sent bytes f means = absurd f
-forgery_event h script earlier (ShowVersion other label version) member to sent bytes f means = absurd f
-forgery_event h script earlier ShowRecent member to sent bytes f means = absurd f
+forgery_event h script earlier line member to sent bytes f means = absurd f
 
 pub forgery_comes : MessagesAreMeant → (h : List ℕ → List ℕ) (script : Script) (at : ℕ) (member : MemberId) (to : Party) (sent : Message) (bytes : List ℕ) (site : SiteView) (skips : Skips) → IsForgery h script at member to sent site skips
     → IsMessage sent → bytes ≡ message_string sent → IsComing h script at (event.Forge member to bytes) site skips
@@ -146,10 +137,14 @@ pub turn_again : (h : List ℕ → List ℕ) (script : Script) (at : ℕ) (line 
     → IsTurn h script at line now left
 turn_again h script at line site now skips left turn stands = record { within = turn.within; number = turn.number; here = turn.here; stands = stands }
 
+-- a forgery for a slot has a request that was sent
+was_sent : (setup : Setup) (earlier : List Numbered) (member : MemberId) (to : Party) (seq : Seq) (client : ClientId) (number : ℕ) → Each (Meets setup earlier) (slot_asks member.0 to seq.0 client.0 number) → HasSent setup earlier client number
+was_sent setup earlier member to seq client number meets = let sent = meets.1.1.1.1.0 in (meets.1.1.1.0, sent.0, sent.1)
+
 -- a line that orders a request
 pub order_sent : LinesFitInTurn → (h : List ℕ → List ℕ) (script : Script) (at : ℕ) (member : MemberId) (to : Party) (seq : Seq) (client : ClientId) (number : ℕ) (site : SiteView) (skips : Skips)
     → IsTurn h script at (ForgeOrder member to seq client number) site skips → HasSent script.setup (lines_before script at) client number
-order_sent fit h script at member to seq client number site skips turn = (turn_fits fit h script at (ForgeOrder member to seq client number) site skips turn).4
+order_sent fit h script at member to seq client number site skips turn = was_sent script.setup (lines_before script at) member to seq client number (turn_fits fit h script at (ForgeOrder member to seq client number) site skips turn).meets
 
 pub order_forged : LinesFitInTurn → AskedIsThere → (h : List ℕ → List ℕ) (script : Script) (at : ℕ) (member : MemberId) (to : Party) (seq : Seq) (client : ClientId) (number : ℕ) (request : List ℕ) (site : SiteView) (skips : Skips)
     → IsTurn h script at (ForgeOrder member to seq client number) site skips → request ≡ string_at h script (lines_before script at) client number
@@ -161,13 +156,13 @@ order_forged fit there h script at member to seq client number request site skip
       line = line;
       turn = turn;
       forges = (refl, refl, ap (λ text. model.PrePrepare seq.0 text) is);
-      fits = ((fits.2, fits.3), subst IsRequestString (sym is) (asked_spelled there h script (lines_before script at) site skips client number turn.stands fits.4));
+      fits = (fits.meets.1.1.0, subst IsRequestString (sym is) (asked_spelled there h script (lines_before script at) site skips client number turn.stands (was_sent script.setup (lines_before script at) member to seq client number fits.meets)));
     }
 
 -- a line that votes for a request
 pub prepare_sent : LinesFitInTurn → (h : List ℕ → List ℕ) (script : Script) (at : ℕ) (member : MemberId) (to : Party) (seq : Seq) (client : ClientId) (number : ℕ) (site : SiteView) (skips : Skips)
     → IsTurn h script at (ForgePrepare member to seq client number) site skips → HasSent script.setup (lines_before script at) client number
-prepare_sent fit h script at member to seq client number site skips turn = (turn_fits fit h script at (ForgePrepare member to seq client number) site skips turn).4
+prepare_sent fit h script at member to seq client number site skips turn = was_sent script.setup (lines_before script at) member to seq client number (turn_fits fit h script at (ForgePrepare member to seq client number) site skips turn).meets
 
 pub prepare_forged : LinesFitInTurn → (h : List ℕ → List ℕ) (script : Script) (at : ℕ) (member : MemberId) (to : Party) (seq : Seq) (client : ClientId) (number : ℕ) (name : List ℕ) (site now : SiteView) (skips left : Skips)
     → IsTurn h script at (ForgePrepare member to seq client number) site skips → StandsFor h script (lines_before script at) now left → name ≡ h (string_at h script (lines_before script at) client number)
@@ -175,11 +170,11 @@ pub prepare_forged : LinesFitInTurn → (h : List ℕ → List ℕ) (script : Sc
 prepare_forged fit h script at member to seq client number name site now skips left turn stands is =
     let line : Line = ForgePrepare member to seq client number in
     let fits : LineFits script.setup (lines_before script at) (ForgePrepare member to seq client number) = turn_fits fit h script at line site skips turn in
-    record { line = line; turn = turn_again h script at line site now skips left turn stands; forges = (refl, refl, ap (λ text. model.Prepare seq.0 text) is); fits = (fits.2, fits.3) }
+    record { line = line; turn = turn_again h script at line site now skips left turn stands; forges = (refl, refl, ap (λ text. model.Prepare seq.0 text) is); fits = fits.meets.1.1.0 }
 
 pub commit_sent : LinesFitInTurn → (h : List ℕ → List ℕ) (script : Script) (at : ℕ) (member : MemberId) (to : Party) (seq : Seq) (client : ClientId) (number : ℕ) (site : SiteView) (skips : Skips)
     → IsTurn h script at (ForgeCommit member to seq client number) site skips → HasSent script.setup (lines_before script at) client number
-commit_sent fit h script at member to seq client number site skips turn = (turn_fits fit h script at (ForgeCommit member to seq client number) site skips turn).4
+commit_sent fit h script at member to seq client number site skips turn = was_sent script.setup (lines_before script at) member to seq client number (turn_fits fit h script at (ForgeCommit member to seq client number) site skips turn).meets
 
 pub commit_forged : LinesFitInTurn → (h : List ℕ → List ℕ) (script : Script) (at : ℕ) (member : MemberId) (to : Party) (seq : Seq) (client : ClientId) (number : ℕ) (name : List ℕ) (site now : SiteView) (skips left : Skips)
     → IsTurn h script at (ForgeCommit member to seq client number) site skips → StandsFor h script (lines_before script at) now left → name ≡ h (string_at h script (lines_before script at) client number)
@@ -187,7 +182,7 @@ pub commit_forged : LinesFitInTurn → (h : List ℕ → List ℕ) (script : Scr
 commit_forged fit h script at member to seq client number name site now skips left turn stands is =
     let line : Line = ForgeCommit member to seq client number in
     let fits : LineFits script.setup (lines_before script at) (ForgeCommit member to seq client number) = turn_fits fit h script at line site skips turn in
-    record { line = line; turn = turn_again h script at line site now skips left turn stands; forges = (refl, refl, ap (λ text. model.Commit seq.0 text) is); fits = (fits.2, fits.3) }
+    record { line = line; turn = turn_again h script at line site now skips left turn stands; forges = (refl, refl, ap (λ text. model.Commit seq.0 text) is); fits = fits.meets.1.1.0 }
 
 -- a line that sends a heart
 pub heart_forged : LinesFitInTurn → (h : List ℕ → List ℕ) (script : Script) (at : ℕ) (member : MemberId) (to : Party) (label : List ℕ) (version : Version) (name object : List ℕ) (site : SiteView) (skips : Skips)
@@ -195,4 +190,4 @@ pub heart_forged : LinesFitInTurn → (h : List ℕ → List ℕ) (script : Scri
 heart_forged fit h script at member to label version name object site skips turn is =
     let line : Line = ForgeHeart member to label version name in
     let fits : LineFits script.setup (lines_before script at) (ForgeHeart member to label version name) = turn_fits fit h script at line site skips turn in
-    record { line = line; turn = turn; forges = (refl, refl, ap (λ o. model.Heart o version.0 name) is); fits = fits.2 }
+    record { line = line; turn = turn; forges = (refl, refl, ap (λ o. model.Heart o version.0 name) is); fits = fits.meets.1.1.0 }

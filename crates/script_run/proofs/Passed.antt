@@ -3,8 +3,12 @@ use Rattle.std.proofs.Common.{◌≡◌, ℕ, Bool, true, false, cond, ◌&&◌,
 use Rattle.std.proofs.Math.Path.{fun_ext}
 use Rattle.std.specs.List.{list_any}
 use Rattle.guarded_update.specs.declared.setup.Setup.{Setup}
+use Rattle.pond_base.specs.declared.numbers.ClientId.{ClientId}
+use Rattle.pond_base.specs.declared.numbers.MemberId.{MemberId}
 use Rattle.pond_base.specs.declared.numbers.Party.{Party}
 use Rattle.pond_base.specs.declared.numbers.Party.TheVariants.{Member, Client}
+use Rattle.pond_base.specs.declared.numbers.Seq.{Seq}
+use Rattle.pond_base.specs.declared.numbers.Version.{Version}
 use Rattle.pond_node.specs.Standing.{NodeStands}
 use Rattle.pond_world.specs.Sites.{SiteView}
 use Rattle.ring_model.specs.Places.{Place}
@@ -14,12 +18,15 @@ use Rattle.ring_model.proofs.Owed.{same_party_true, same_party_refl}
 use Rattle.message_model.specs.Told.{Told, stands_at}
 use Rattle.ring_world.specs.Worlds.{WorldStands}
 use Rattle.message_model.specs.Meaning.{who}
-use Rattle.script_limits.specs.Limits.{SetupFits, IsParty}
-use Rattle.script_names.specs.Laws.{muted_in, lost_in}
-use Rattle.text_model.specs.Events.{ring_for, events_of, muted, lost}
+use Rattle.script_laws.specs.Limits.{SetupFits, IsParty}
+use Rattle.script_laws.specs.NamingLaws.{muted_in, lost_in}
+use Rattle.text_model.specs.Events.{ring_for, events_of, with_events, muted, muted_by, lost, lost_by}
+use Rattle.text_model.specs.Named.{line_strings}
+use Rattle.text_model.specs.Requests.{Numbered, submitted, with_line}
 use Rattle.ring_mail.specs.Skips.{Skips}
 use Rattle.script_terms.specs.declared.line.Line.{Line}
-use Rattle.script_terms.specs.declared.line.Line.TheVariants.{Submit, Resubmit, Deliver, Lose, Settle, Mute, Unmute, ForgeOrder, ForgePrepare, ForgeCommit, ForgeHeart, ForgeRaw, Read, ShowMember, ShowClient, ShowVersion, ShowRecent}
+use Rattle.script_terms.specs.declared.line.Line.TheVariants.{Submit, Resubmit, Deliver, Lose, Settle, Mute, Unmute, ForgeOrder, ForgePrepare, ForgeCommit, ForgeHeart, ForgeRaw}
+use Rattle.script_terms.specs.declared.line.LineClause.{LineClause}
 use Rattle.script_terms.specs.declared.script.Script.{Script}
 use Rattle.script_run.specs.States.{StandsNext, IsTurn, lines_before}
 use Rattle.script_run.proofs.Turns.{next_same}
@@ -109,31 +116,47 @@ pub lost_next : (h : List ℕ → List ℕ) (script : Script) (at : ℕ) (sender
 lost_next h script at sender to place site now skips left turn held stands same more =
     next_same h script at (Lose sender to place) site now skips left turn refl refl refl held stands (same ∙ turn.stands.muted_are) (lost_more (sender, to, place) (lost (lines_before script at)) skips.lost left.lost turn.stands.lost_are more)
 
--- a line that shows something
-abbrev pub IsShow : Line → Type 0
-IsShow (Read client label) = Unit {0}
-IsShow (ShowMember member) = Unit {0}
-IsShow (ShowClient client) = Unit {0}
-IsShow (ShowVersion member label version) = Unit {0}
-IsShow ShowRecent = Unit {0}
-IsShow line = ⊥
+-- a line that leaves the ring as it is: it is no event of it, and changes nothing that is passed over
+pub record IsApart (line : Line) : Type 0 where
+  pub submit : (client : ClientId) (label : List ℕ) (clauses : List LineClause) → line ≡ Submit client label clauses → ⊥
+  pub resubmit : (client : ClientId) (number : ℕ) → line ≡ Resubmit client number → ⊥
+  pub deliver : (sender : Party) (to : Party) (place : ℕ) → line ≡ Deliver sender to place → ⊥
+  pub lose : (sender : Party) (to : Party) (place : ℕ) → line ≡ Lose sender to place → ⊥
+  pub settle : line ≡ Settle → ⊥
+  pub mute : (party : Party) → line ≡ Mute party → ⊥
+  pub unmute : (party : Party) → line ≡ Unmute party → ⊥
+  pub order : (member : MemberId) (to : Party) (seq : Seq) (client : ClientId) (number : ℕ) → line ≡ ForgeOrder member to seq client number → ⊥
+  pub prepare : (member : MemberId) (to : Party) (seq : Seq) (client : ClientId) (number : ℕ) → line ≡ ForgePrepare member to seq client number → ⊥
+  pub commit : (member : MemberId) (to : Party) (seq : Seq) (client : ClientId) (number : ℕ) → line ≡ ForgeCommit member to seq client number → ⊥
+  pub heart : (member : MemberId) (to : Party) (label : List ℕ) (version : Version) (name : List ℕ) → line ≡ ForgeHeart member to label version name → ⊥
+  pub raw : (member : MemberId) (to : Party) (content : List ℕ) → line ≡ ForgeRaw member to content → ⊥
+
+-- what such a line leaves as it is
+record Leaves (h : List ℕ → List ℕ) (script : Script) (earlier : List Numbered) (number : ℕ) (line : Line) : Type 0 where
+  pub strings : line_strings h script earlier (number, line) ≡ []
+  pub events : with_events h (ring_for h script) earlier (events_of h script earlier) line ≡ events_of h script earlier
+  pub requests : with_line h (submitted h earlier) line ≡ submitted h earlier
+  pub muted_stay : muted_by (muted earlier) line ≡ muted earlier
+  pub lost_stay : lost_by (lost earlier) line ≡ lost earlier
+
+apart_leaves : (h : List ℕ → List ℕ) (script : Script) (earlier : List Numbered) (number : ℕ) (line : Line) → IsApart line → Leaves h script earlier number line
+apart_leaves h script earlier number (Submit client label clauses) is = absurd (is.submit client label clauses refl)
+apart_leaves h script earlier number (Resubmit client n) is = absurd (is.resubmit client n refl)
+apart_leaves h script earlier number (Deliver sender to place) is = absurd (is.deliver sender to place refl)
+apart_leaves h script earlier number (Lose sender to place) is = absurd (is.lose sender to place refl)
+apart_leaves h script earlier number Settle is = absurd (is.settle refl)
+apart_leaves h script earlier number (Mute party) is = absurd (is.mute party refl)
+apart_leaves h script earlier number (Unmute party) is = absurd (is.unmute party refl)
+apart_leaves h script earlier number (ForgeOrder member to seq client n) is = absurd (is.order member to seq client n refl)
+apart_leaves h script earlier number (ForgePrepare member to seq client n) is = absurd (is.prepare member to seq client n refl)
+apart_leaves h script earlier number (ForgeCommit member to seq client n) is = absurd (is.commit member to seq client n refl)
+apart_leaves h script earlier number (ForgeHeart member to label version name) is = absurd (is.heart member to label version name refl)
+apart_leaves h script earlier number (ForgeRaw member to content) is = absurd (is.raw member to content refl)
+apart_leaves h script earlier number line is = record { strings = refl; events = refl; requests = refl; muted_stay = refl; lost_stay = refl }
 
 -- after it all is as it was
-pub shown_next : (h : List ℕ → List ℕ) (script : Script) (at : ℕ) (line : Line) (site : SiteView) (skips : Skips) → IsShow line → IsTurn h script at line site skips → StandsNext h script at site skips
-shown_next h script at (Read client label) site skips is turn = next_same h script at (Read client label) site site skips skips turn refl refl refl refl turn.stands.stands turn.stands.muted_are turn.stands.lost_are
-shown_next h script at (ShowMember member) site skips is turn = next_same h script at (ShowMember member) site site skips skips turn refl refl refl refl turn.stands.stands turn.stands.muted_are turn.stands.lost_are
-shown_next h script at (ShowClient client) site skips is turn = next_same h script at (ShowClient client) site site skips skips turn refl refl refl refl turn.stands.stands turn.stands.muted_are turn.stands.lost_are
-shown_next h script at (ShowVersion member label version) site skips is turn = next_same h script at (ShowVersion member label version) site site skips skips turn refl refl refl refl turn.stands.stands turn.stands.muted_are turn.stands.lost_are
-shown_next h script at ShowRecent site skips is turn = next_same h script at ShowRecent site site skips skips turn refl refl refl refl turn.stands.stands turn.stands.muted_are turn.stands.lost_are
-shown_next h script at (Submit client label clauses) site skips is turn = absurd is
-shown_next h script at (Resubmit client number) site skips is turn = absurd is
-shown_next h script at (Deliver sender to place) site skips is turn = absurd is
-shown_next h script at (Lose sender to place) site skips is turn = absurd is
-shown_next h script at Settle site skips is turn = absurd is
-shown_next h script at (Mute party) site skips is turn = absurd is
-shown_next h script at (Unmute party) site skips is turn = absurd is
-shown_next h script at (ForgeOrder member to seq client number) site skips is turn = absurd is
-shown_next h script at (ForgePrepare member to seq client number) site skips is turn = absurd is
-shown_next h script at (ForgeCommit member to seq client number) site skips is turn = absurd is
-shown_next h script at (ForgeHeart member to label version name) site skips is turn = absurd is
-shown_next h script at (ForgeRaw member to content) site skips is turn = absurd is
+pub apart_next : (h : List ℕ → List ℕ) (script : Script) (at : ℕ) (line : Line) (site : SiteView) (skips : Skips) → IsApart line → IsTurn h script at line site skips → StandsNext h script at site skips
+apart_next h script at line site skips is turn =
+    let leaves = apart_leaves h script (lines_before script at) turn.number line is in
+    next_same h script at line site site skips skips turn leaves.strings leaves.events leaves.requests refl turn.stands.stands
+    (turn.stands.muted_are ∙ ap muted_in (sym leaves.muted_stay)) (turn.stands.lost_are ∙ ap lost_in (sym leaves.lost_stay))

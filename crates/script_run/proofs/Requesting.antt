@@ -24,10 +24,10 @@ use Rattle.ring_world.specs.declared.event.Event.{Event}
 use Rattle.ring_world.specs.declared.event.Event.TheVariants as event
 use Rattle.ring_mail.specs.Skips.{Skips}
 use Rattle.ring_world.specs.declared.state.World.{World}
-use Rattle.script_events.specs.Events.{IsEventOf}
-use Rattle.script_events.specs.Laws.{CountsJoin, EventsComeOfLines, RingIsSound}
-use Rattle.script_limits.specs.Limits.{update_of}
-use Rattle.script_limits.specs.Turns.{LinesFitInTurn, FewAreSubmitted}
+use Rattle.script_laws.specs.Events.{IsEventOf}
+use Rattle.script_laws.specs.EventLaws.{CountsJoin, EventsComeOfLines, RingIsSound}
+use Rattle.script_laws.specs.Limits.{update_of}
+use Rattle.script_laws.specs.Turns.{LinesFitInTurn, FewAreSubmitted}
 use Rattle.script_terms.specs.declared.line.Line.{Line}
 use Rattle.script_terms.specs.declared.line.Line.TheVariants.{Submit}
 use Rattle.script_terms.specs.declared.line.LineClause.{LineClause}
@@ -47,7 +47,7 @@ counted fit joins h script at client label clauses site skips w count turn same 
     let earlier = lines_before script at in
     let stands : WorldStands NodeStands (ring_for h script) w (events_of h script earlier) =
     subst (λ v. WorldStands NodeStands (ring_for h script) v (events_of h script earlier)) (sym same) turn.stands.stands in
-    tells (ring_for h script) (events_of h script earlier) stands (turn_fits fit h script at (Submit client label clauses) site skips turn).0 ∙ joins h script earlier turn.stands.requests client
+    tells (ring_for h script) (events_of h script earlier) stands (turn_fits fit h script at (Submit client label clauses) site skips turn).meets.0 ∙ joins h script earlier turn.stands.requests client
 
 -- it has a number left
 pub few_counted : LinesFitInTurn → FewAreSubmitted → (h : List ℕ → List ℕ) (script : Script) (at : ℕ) (client : ClientId) (label : List ℕ) (clauses : List LineClause) (site : SiteView) (skips : Skips)
@@ -57,7 +57,7 @@ few_counted fit few h script at client label clauses site skips turn =
       arith,
       count_by-le-length (λ (r : Request). r.client.0 == client.0) (submitted h (lines_before script at)),
       few h (lines_before script at),
-      (turn_fits fit h script at (Submit client label clauses) site skips turn).2,
+      (turn_fits fit h script at (Submit client label clauses) site skips turn).light.1,
     )
 
 all_three : (a b c : Bool) → a ≡ true → b ≡ true → c ≡ true → (a && b && c) ≡ true
@@ -69,7 +69,7 @@ pub next_fits : LinesFitInTurn → (h : List ℕ → List ℕ) (script : Script)
 next_fits fit h script at client label clauses site skips turn =
     let fits = turn_fits fit h script at (Submit client label clauses) site skips turn in
     let count : ℕ = count_of client (submitted h (lines_before script at)) in
-    all_three (nat_lt client.0 16) (nat_le 1 (count + 1)) (update_fits (update_of h clauses)) (lt-ltb client.0 16 (omega (arith, fits.0, turn.within.setup.few_clients))) (le-leb 1 (count + 1) (omega arith)) (fits.1.0 h)
+    all_three (nat_lt client.0 16) (nat_le 1 (count + 1)) (update_fits (update_of h clauses)) (lt-ltb client.0 16 (omega (arith, fits.meets.0, turn.within.setup.few_clients))) (le-leb 1 (count + 1) (omega arith)) (fits.light.0.0 h)
 
 -- the request of some fields
 abbrev pub record_of : ClientId → ℕ → List ℕ → List Clause → Request

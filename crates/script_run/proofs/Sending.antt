@@ -8,11 +8,11 @@ use Rattle.ring_world.specs.declared.event.Event.{Event}
 use Rattle.ring_world.specs.declared.event.Event.TheVariants as wevent
 use Rattle.ring_mail.specs.Skips.{Skips}
 use Rattle.ring_world.specs.Worlds.{WorldStands, strings_of}
-use Rattle.script_events.specs.Events.{IsEventOf}
+use Rattle.script_laws.specs.Events.{IsEventOf}
 use Rattle.script_requests.specs.Holding.{HoldsJust, IsClashOf}
 use Rattle.script_requests.proofs.Holds.{all_none, contains_none, holds_more}
 use Rattle.script_terms.specs.declared.line.Line.{Line}
-use Rattle.script_terms.specs.declared.line.Line.TheVariants.{Submit, Resubmit, Deliver, Lose, Settle, Mute, Unmute, ForgeOrder, ForgePrepare, ForgeCommit, ForgeHeart, ForgeRaw, Read, ShowMember, ShowClient, ShowVersion, ShowRecent}
+use Rattle.script_terms.specs.declared.line.Line.TheVariants.{Submit, Resubmit, Deliver, ForgeOrder, ForgePrepare, ForgeCommit, ForgeHeart, ForgeRaw}
 use Rattle.script_terms.specs.declared.script.Script.{Script}
 use Rattle.text_model.specs.Events.{ring_for, events_of, world_of}
 use Rattle.text_model.specs.Named.{named}
@@ -47,10 +47,6 @@ sent_next h script at line event site now skips turn is quiet grew stands = by l
     by (Submit client label clauses) t e = absurd (subst IsQuiet e.0 quiet)
     by (Resubmit client number) t e = next_from h script at t.number (Resubmit client number) now skips t.here (just t.stands.holds) (here (Resubmit client number) t.number t.here) t.stands.muted_are t.stands.lost_are t.stands.requests
     by (Deliver sender to place) t e = absurd (subst IsQuiet e quiet)
-    by (Lose sender to place) t e = absurd e
-    by Settle t e = absurd e
-    by (Mute party) t e = absurd e
-    by (Unmute party) t e = absurd e
     by (ForgeOrder member to seq client number) t e =
         next_from h script at t.number (ForgeOrder member to seq client number) now skips t.here (just t.stands.holds) (here (ForgeOrder member to seq client number) t.number t.here) t.stands.muted_are t.stands.lost_are t.stands.requests
     by (ForgePrepare member to seq client number) t e =
@@ -61,11 +57,7 @@ sent_next h script at line event site now skips turn is quiet grew stands = by l
         next_from h script at t.number (ForgeHeart member to label version name) now skips t.here (just t.stands.holds) (here (ForgeHeart member to label version name) t.number t.here) t.stands.muted_are t.stands.lost_are t.stands.requests
     by (ForgeRaw member to content) t e =
         next_from h script at t.number (ForgeRaw member to content) now skips t.here (just t.stands.holds) (here (ForgeRaw member to content) t.number t.here) t.stands.muted_are t.stands.lost_are t.stands.requests
-    by (Read client label) t e = absurd e
-    by (ShowMember member) t e = absurd e
-    by (ShowClient client) t e = absurd e
-    by (ShowVersion member label version) t e = absurd e
-    by ShowRecent t e = absurd e
+    by l t e = absurd e
 
 -- a clash at a quiet event is none of its own
 pub sent_clash : (h : List ℕ → List ℕ) (script : Script) (at : ℕ) (line : Line) (event : Event) (site : SiteView) (skips : Skips) (fault : NameFault) → IsTurn h script at line site skips → IsQuiet event

@@ -16,9 +16,9 @@ use Rattle.ring_model.specs.Deliveries.{settled}
 use Rattle.message_model.specs.Naming.{named_along, IsNamedIn}
 use Rattle.ring_world.specs.Settles.{Settles}
 use Rattle.ring_world.specs.Worlds.{WorldStands, strings_of}
-use Rattle.script_events.specs.Laws.{SubmitsAreRequests}
-use Rattle.script_names.specs.Laws.{AreOfLines, DeliveriesAreNamed, SettlesAreNamed, SkipsJoin, SettledJoins}
-use Rattle.script_names.proofs.Elements.{in_reverse}
+use Rattle.script_laws.specs.EventLaws.{SubmitsAreRequests}
+use Rattle.script_laws.specs.NamingLaws.{AreOfLines, DeliveriesAreNamed, SettlesAreNamed, SkipsJoin, SettledJoins}
+use Rattle.script_laws.proofs.Elements.{in_reverse}
 use Rattle.script_requests.specs.Holding.{HoldsAll, IsClashOf}
 use Rattle.script_terms.specs.declared.line.Line.{Line}
 use Rattle.script_terms.specs.declared.line.Line.TheVariants.{Deliver, Settle}

@@ -26,13 +26,13 @@ use Rattle.ring_mail.specs.Skips.{Skips}
 use Rattle.ring_world.specs.declared.state.World.{World}
 use Rattle.ring_world.specs.Worlds.{WorldStands}
 use Rattle.script_terms.specs.declared.line.Line.{Line}
-use Rattle.script_terms.specs.declared.line.Line.TheVariants.{Submit, Resubmit, Deliver, Lose, Settle, Mute, Unmute, ForgeOrder, ForgePrepare, ForgeCommit, ForgeHeart, ForgeRaw, Read, ShowMember, ShowClient, ShowVersion, ShowRecent}
+use Rattle.script_terms.specs.declared.line.Line.TheVariants.{Read, ShowMember, ShowClient, ShowVersion, ShowRecent}
 use Rattle.script_terms.specs.declared.script.Script.{Script}
-use Rattle.script_limits.specs.Limits.{IsMember, IsWithin, LineFits}
-use Rattle.script_limits.specs.Turns.{LinesFitInTurn}
-use Rattle.script_events.specs.Events.{IsSpelled}
-use Rattle.script_events.specs.Laws.{SubmitsAreRequests}
-use Rattle.script_events.proofs.Spelled.{spelled, each_spelled}
+use Rattle.script_laws.specs.Limits.{IsWithin, LineFits}
+use Rattle.script_laws.specs.Turns.{LinesFitInTurn}
+use Rattle.script_laws.specs.Events.{IsSpelled}
+use Rattle.script_laws.specs.EventLaws.{SubmitsAreRequests}
+use Rattle.script_laws.proofs.Spelled.{spelled, each_spelled}
 use Rattle.script_printing.specs.Executed.{AreRequestStrings, ForExecuted}
 use Rattle.text_model.specs.Blocks.{faulty_text, member_text, shape_text, up_to}
 use Rattle.text_model.specs.Events.{ring_for, events_of, world_of, is_declared_faulty, no_archives}
@@ -98,14 +98,14 @@ all_spelled are h script lines strings requests among = λ string c.
 -- a member that is shown is one of the ring
 pub member_here : LinesFitInTurn → (h : List ℕ → List ℕ) (script : Script) (at : ℕ) (member : MemberId) (site : SiteView) (skips : Skips) → IsTurn h script at (ShowMember member) site skips → member.0 < 3 * script.setup.f + 1
 member_here fit h script at member site skips turn =
-    let fits : IsMember script.setup member = turn_fits fit h script at (ShowMember member) site skips turn in
-    omega (arith, fits)
+    let fits : LineFits script.setup (lines_before script at) (ShowMember member) = turn_fits fit h script at (ShowMember member) site skips turn in
+    omega (arith, fits.meets.0)
 
 pub version_here : LinesFitInTurn → (h : List ℕ → List ℕ) (script : Script) (at : ℕ) (member : MemberId) (label : List ℕ) (version : Version) (site : SiteView) (skips : Skips) → IsTurn h script at (ShowVersion member label version) site skips
     → member.0 < 3 * script.setup.f + 1
 version_here fit h script at member label version site skips turn =
     let fits : LineFits script.setup (lines_before script at) (ShowVersion member label version) = turn_fits fit h script at (ShowVersion member label version) site skips turn in
-    omega (arith, fits.0)
+    omega (arith, fits.meets.0)
 
 -- a member that has a node is correct, and one that has none is faulty
 not_false : (b : Bool) → true ≡ not b → b ≡ false
@@ -191,20 +191,9 @@ prints_it h script at number line printed here is = λ other there.
 pub nothing_printed : (h : List ℕ → List ℕ) (script : Script) (earlier : List Numbered) (line : Line) → ((client : ClientId) (label : List ℕ) → line ≡ Read client label → ⊥) → ((member : MemberId) → line ≡ ShowMember member → ⊥)
     → ((client : ClientId) → line ≡ ShowClient client → ⊥)
     → ((member : MemberId) (label : List ℕ) (version : Version) → line ≡ ShowVersion member label version → ⊥) → (line ≡ ShowRecent → ⊥) → [] ≡ line_text h script earlier line
-nothing_printed h script earlier (Submit by label clauses) read member client version recent = refl
-nothing_printed h script earlier (Resubmit by number) read member client version recent = refl
-nothing_printed h script earlier (Deliver sender to place) read member client version recent = refl
-nothing_printed h script earlier (Lose sender to place) read member client version recent = refl
-nothing_printed h script earlier Settle read member client version recent = refl
-nothing_printed h script earlier (Mute party) read member client version recent = refl
-nothing_printed h script earlier (Unmute party) read member client version recent = refl
-nothing_printed h script earlier (ForgeOrder by to seq asker number) read member client version recent = refl
-nothing_printed h script earlier (ForgePrepare by to seq asker number) read member client version recent = refl
-nothing_printed h script earlier (ForgeCommit by to seq asker number) read member client version recent = refl
-nothing_printed h script earlier (ForgeHeart by to label version name) read member client shape recent = refl
-nothing_printed h script earlier (ForgeRaw by to content) read member client version recent = refl
 nothing_printed h script earlier (Read reader label) read member client version recent = absurd (read reader label refl)
 nothing_printed h script earlier (ShowMember shown) read member client version recent = absurd (member shown refl)
 nothing_printed h script earlier (ShowClient shown) read member client version recent = absurd (client shown refl)
 nothing_printed h script earlier (ShowVersion shown label number) read member client version recent = absurd (version shown label number refl)
 nothing_printed h script earlier ShowRecent read member client version recent = absurd (recent refl)
+nothing_printed h script earlier line read member client version recent = refl

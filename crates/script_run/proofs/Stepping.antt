@@ -20,9 +20,9 @@ use Rattle.script_run.specs.declared.running.End.TheVariants.{Done, WriteFault, 
 use Rattle.script_run.specs.Ends.{Takes, Says, EndsAt, IsClear, written_at}
 use Rattle.pond_world.specs.Sites.{SiteView}
 use Rattle.ring_mail.specs.Skips.{Skips}
-use Rattle.script_agreement.specs.Laws.{ListsAreOne, BeliefsHold}
-use Rattle.script_events.specs.Laws.{SubmitsAreRequests}
-use Rattle.script_limits.specs.Limits.{SetupFits}
+use Rattle.script_laws.specs.AgreementLaws.{ListsAreOne, BeliefsHold}
+use Rattle.script_laws.specs.EventLaws.{SubmitsAreRequests}
+use Rattle.script_laws.specs.Limits.{SetupFits}
 use Rattle.script_run.specs.States.{StandsFor}
 use Rattle.script_run.proofs.Agreed.{one_list, beliefs_true}
 use Rattle.script_run.proofs.Settling.{lines_among}

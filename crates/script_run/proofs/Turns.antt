@@ -8,13 +8,13 @@ use Rattle.pond_node.specs.Standing.{NodeStands}
 use Rattle.pond_world.specs.Sites.{SiteView}
 use Rattle.ring_mail.specs.Skips.{Skips}
 use Rattle.ring_world.specs.Worlds.{WorldStands}
-use Rattle.script_limits.specs.Limits.{LineFits, LinesFit}
-use Rattle.script_limits.specs.Turns.{LinesFitInTurn}
+use Rattle.script_laws.specs.Limits.{LineFits, LinesFit}
+use Rattle.script_laws.specs.Turns.{LinesFitInTurn}
 use Rattle.script_requests.specs.Holding.{HoldsJust}
 use Rattle.script_requests.proofs.Holds.{take_one_more}
 use Rattle.script_terms.specs.declared.line.Line.{Line}
 use Rattle.script_terms.specs.declared.script.Script.{Script}
-use Rattle.script_names.specs.Laws.{muted_in, lost_in}
+use Rattle.script_laws.specs.NamingLaws.{muted_in, lost_in}
 use Rattle.text_model.specs.Events.{ring_for, events_of, with_events, muted, muted_by, lost, lost_by}
 use Rattle.text_model.specs.Named.{named, line_strings}
 use Rattle.text_model.specs.Requests.{Numbered, submitted, with_line}

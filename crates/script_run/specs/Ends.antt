@@ -3,8 +3,8 @@ use Rattle.std.specs.Prelude.{◌≡◌, ℕ, List, ◌∷◌, reverse, if◌the
 use Rattle.std.specs.Io.KnownBytes.{Appends}
 use Rattle.pond_base.specs.Outside.{Seen, Fails, IsSound, AppendsPrefix}
 use Rattle.script_terms.specs.declared.script.Script.{Script}
-use Rattle.script_agreement.specs.OneList.{IsOneList}
-use Rattle.script_agreement.specs.Beliefs.{BeliefsAreTrue}
+use Rattle.script_laws.specs.OneList.{IsOneList}
+use Rattle.script_laws.specs.Beliefs.{BeliefsAreTrue}
 use Rattle.script_run.specs.declared.running.End.{End}
 use Rattle.script_run.specs.declared.running.End.TheVariants.{Done, WriteFault, Clash, Memory}
 use Rattle.text_model.specs.Clashes.{NoClash, IsFirstClash, IsClash, has_clash}

@@ -18,27 +18,32 @@ use Rattle.ring_world.specs.Worlds.{WorldStands}
 use Rattle.pond_world.specs.Sites.{SiteView}
 use Rattle.script_terms.specs.declared.line.Line.{Line}
 use Rattle.script_terms.specs.declared.line.Line.TheVariants.{ForgeOrder, ForgePrepare, ForgeCommit, ForgeHeart}
+use Rattle.script_terms.specs.declared.line.Spot.{Spot}
 use Rattle.script_terms.specs.declared.script.Script.{Script}
-use Rattle.script_limits.specs.Limits.{IsWithin}
+use Rattle.script_laws.specs.Limits.{IsWithin}
 use Rattle.script_requests.specs.Holding.{HoldsJust}
-use Rattle.script_events.specs.Events.{IsEventOf}
-use Rattle.script_names.specs.Laws.{muted_in, lost_in}
-use Rattle.text_model.specs.Events.{ring_for, world_of, events_of, muted, lost, asked_string}
-use Rattle.text_model.specs.Named.{named}
-use Rattle.text_model.specs.Requests.{Numbered, submitted}
+use Rattle.script_laws.specs.Events.{IsEventOf}
+use Rattle.script_laws.specs.NamingLaws.{muted_in, lost_in}
+use Rattle.text_model.specs.Events.{ring_for, world_of, asked_string}
+use Rattle.text_model.specs.Requests.{Numbered}
+use Rattle.text_model.specs.State.{state_after}
 use Rattle.text_model.specs.Text.{line_text}
 
--- Some lines of a script were run: the book holds just the strings that they name, the world stands for the events that they are, and what is passed over is what they say.
+-- Some lines of a script were run: part by part, the book, the world, what it passes over and what was submitted are what the lines leave. What they leave outside the ring is `IsOutside`.
 pub record StandsFor (h : List ℕ → List ℕ) (script : Script) (lines : List Numbered) (site : SiteView) (skips : Skips) : Type 0 where
-  pub holds : HoldsJust h site.held (named h script lines)
-  pub stands : WorldStands NodeStands (ring_for h script) site.world (events_of h script lines)
-  pub muted_are : skips.muted ≡ muted_in (muted lines)
-  pub lost_are : skips.lost ≡ lost_in (lost lines)
-  pub requests : AllByRecursion IsRequest (submitted h lines)
+  pub holds : HoldsJust h site.held (state_after h script lines).named
+  pub stands : WorldStands NodeStands (ring_for h script) site.world (state_after h script lines).events
+  pub muted_are : skips.muted ≡ muted_in (state_after h script lines).muted
+  pub lost_are : skips.lost ≡ lost_in (state_after h script lines).lost
+  pub requests : AllByRecursion IsRequest (state_after h script lines).requests
 
 -- the lines before a place
 abbrev pub lines_before : Script → ℕ → List Numbered
 lines_before script at = reverse (take at script.lines)
+
+-- these places are cut after the lines before a place
+abbrev pub IsOutside : (List ℕ → List ℕ) → Script → ℕ → List Spot → Type 0
+IsOutside h script at spots = spots ≡ (state_after h script (lines_before script at)).cut
 
 -- the lines before a place were run, and there stands this line
 pub record IsTurn (h : List ℕ → List ℕ) (script : Script) (at : ℕ) (line : Line) (site : SiteView) (skips : Skips) : Type 0 where

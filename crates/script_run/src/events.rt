@@ -7,7 +7,7 @@ ghost use Rattle.pond_node.specs.Standing.{NodeStands};
 ghost use Rattle.pond_world.specs.Sites.{IsClashAfter};
 ghost use Rattle.ring_world.specs.Worlds.{WorldStands, strings_of};
 ghost use Rattle.ring_world.specs.Skipping.{skips};
-ghost use Rattle.script_limits.specs.Limits.{IsWithin};
+ghost use Rattle.script_laws.specs.Limits.{IsWithin};
 ghost use Rattle.script_requests.specs.Holding.{HoldsAll, IsClashOf};
 ghost use Rattle.script_terms.specs.declared.line.Line.TheVariants.{Deliver, Resubmit, Settle};
 ghost use Rattle.text_model.specs.Events.{ring_for, world_of, events_of};
@@ -25,14 +25,15 @@ use fold_model::ring_folds;
 use pond_base::{ClientId, Party};
 use pond_world::{Site, events_may_come};
 use ring_world::Event;
-use script_events::{events_come_of_lines, setups_join, submits_are_requests};
-use script_limits::lines_fit_in_turn;
-use script_names::{deliveries_are_named, settled_joins, settles_are_named, skips_join};
+use script_laws::{
+    deliveries_are_named, events_come_of_lines, lines_fit_in_turn, settled_joins,
+    settles_are_named, setups_join, skips_join, submits_are_requests,
+};
 use script_terms::{Line, Script};
 use std::thread::Threads;
 
 impl<H: Hash160 + Drop> State<H> {
-    /// The state after the line at a place.
+    /// The ring after the line at a place, where that is one of it or changes what is passed over.
     pub(crate) fn after<R: Threads>(
         self,
         rt: &R,
@@ -91,11 +92,7 @@ impl<H: Hash160 + Drop> State<H> {
             Line::ForgeRaw { member, to, bytes } => self.forged_raw(
                 rt, script, at, *member, *to, bytes,
             ),
-            Line::Read { .. }
-            | Line::ShowMember { .. }
-            | Line::ShowClient { .. }
-            | Line::ShowVersion { .. }
-            | Line::ShowRecent => Ok(self),
+            _ => Ok(self),
         }
     }
 

@@ -1,7 +1,7 @@
 // What faulty members send.
 ghost use Rattle.std.specs.Prelude.{◌≡◌, ◌+◌, reverse, IfOk, IfErr};
 ghost use Rattle.ring_world.specs.Skipping.{skips};
-ghost use Rattle.script_limits.specs.Limits.{HasSent, IsWithin};
+ghost use Rattle.script_laws.specs.Limits.{HasSent, IsWithin};
 ghost use Rattle.script_requests.specs.Holding.{IsClashOf};
 ghost use Rattle.script_terms.specs.declared.line.Line.TheVariants.{ForgeOrder, ForgePrepare, ForgeCommit, ForgeHeart, ForgeRaw};
 ghost use Rattle.text_model.specs.Events.{ring_for, world_of, asked_string};
@@ -17,8 +17,7 @@ use message_model::messages_are_meant;
 use pond_base::{ClientId, Label, MemberId, Name, OutOfMemory, Party, Seq, Version};
 use ring_message::{Message, write};
 use ring_world::Event;
-use script_events::asked_is_there;
-use script_limits::lines_fit_in_turn;
+use script_laws::{asked_is_there, lines_fit_in_turn};
 use script_terms::Script;
 use std::thread::Threads;
 

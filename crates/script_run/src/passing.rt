@@ -7,7 +7,7 @@ ghost use Rattle.script_run.specs.States.{IsTurn, StandsNext};
 use crate::state::State;
 use block_names::Hash160;
 use pond_base::{OutOfMemory, Party};
-use script_limits::lines_fit_in_turn;
+use script_laws::lines_fit_in_turn;
 use script_terms::Script;
 
 impl<H: Hash160 + Drop> State<H> {

@@ -1,7 +1,7 @@
 // What lines print.
 ghost use Rattle.std.specs.Prelude.{◌≡◌, ◌<◌, length, reverse, string_bytes, IfOk};
 ghost use Rattle.ring_world.specs.Skipping.{skips};
-ghost use Rattle.script_limits.specs.Limits.{IsWithin};
+ghost use Rattle.script_laws.specs.Limits.{IsWithin};
 ghost use Rattle.script_terms.specs.declared.line.Line.TheVariants.{Read, ShowMember, ShowClient, ShowVersion, ShowRecent};
 ghost use Rattle.text_model.specs.Text.{line_text};
 ghost use Rattle.script_run.specs.Labels.{AreLabels};
@@ -12,8 +12,7 @@ use crate::state::State;
 use block_names::Hash160;
 use fold_model::ring_folds;
 use pond_base::{ClientId, Label, MemberId, OutOfMemory, Version};
-use script_events::{setups_join, submits_are_requests};
-use script_limits::lines_fit_in_turn;
+use script_laws::{lines_fit_in_turn, setups_join, submits_are_requests};
 use script_printing as printing;
 use script_terms::{Line, Script};
 

@@ -1,7 +1,7 @@
 // A run of a script.
-ghost use Rattle.std.specs.Prelude.{◌≡◌, ◌∷◌, ◌<◌, List, ℕ, length, reverse, slice_get, Some, true, IfOk, IfErr, string_bytes};
+ghost use Rattle.std.specs.Prelude.{◌≡◌, ◌∷◌, ◌<◌, ◌+◌, List, ℕ, length, reverse, slice_get, Some, true, IfOk, IfErr, OnOk, string_bytes};
 ghost use Rattle.ring_world.specs.Skipping.{skips};
-ghost use Rattle.script_limits.specs.Limits.{IsWithin};
+ghost use Rattle.script_laws.specs.Limits.{IsWithin};
 ghost use Rattle.script_requests.specs.Holding.{IsClashOf};
 ghost use Rattle.text_model.specs.Clashes.{has_clash};
 ghost use Rattle.text_model.specs.Named.{named};
@@ -9,16 +9,16 @@ ghost use Rattle.text_model.specs.Requests.{Numbered};
 ghost use Rattle.text_model.specs.Text as model;
 ghost use Rattle.script_run.specs.Ends.{Says, EndsAt, Takes, written_at};
 ghost use Rattle.script_run.specs.Labels.{AreLabels};
-ghost use Rattle.script_run.specs.States.{StandsFor, StandsNext, lines_before};
+ghost use Rattle.script_run.specs.States.{IsOutside, StandsFor, StandsNext, lines_before};
 
 use crate::labels::Labels;
+use crate::outside::Outside;
 use crate::printing::line_text;
 use crate::state::State;
 use block_names::{Hash160, NameFault};
 use bytes::Bytes;
 use pond_base::{OutOfMemory, Sink, write_whole};
-use script_agreement::{beliefs_are_true, lists_are_one};
-use script_events::submits_are_requests;
+use script_laws::{beliefs_are_true, lists_are_one, submits_are_requests};
 use script_terms::Script;
 use std::alloc::Global;
 use std::thread::Threads;
@@ -64,8 +64,9 @@ pub fn run<R: Threads, H: Hash160 + Drop, K: Sink>(
         Ok(first) => first,
         Err(fault) => return end_at(alloc, 0, fault, sink),
     };
+    let mut outside = Outside::new(alloc);
     for at in 0..script.lines.len() {
-        state = match after_line(rt, state, alloc, &labels, script, at, sink) {
+        state = match after_line(rt, state, &mut outside, alloc, &labels, script, at, sink) {
             Ok(state) => state,
             Err(end) => return end,
         };
@@ -77,6 +78,7 @@ pub fn run<R: Threads, H: Hash160 + Drop, K: Sink>(
 fn after_line<R: Threads, H: Hash160 + Drop, K: Sink>(
     rt: &R,
     state: State<H>,
+    outside: &mut Outside,
     alloc: Global,
     labels: &Labels,
     script: &Script,
@@ -87,7 +89,9 @@ fn after_line<R: Threads, H: Hash160 + Drop, K: Sink>(
     requires labels { AreLabels H.naming labels.now.entries (reverse script.now.lines) }
     requires here { at < length script.now.lines }
     requires stands { StandsFor H.naming script.now (lines_before script.now at) state.site (skips state.site.world) }
+    requires outside { IsOutside H.naming script.now at outside.old }
     ensures stands { IfOk result (λ after. StandsNext H.naming script.now at after.site (skips after.site.world)) }
+    ensures outside { OnOk result (IsOutside H.naming script.now (at + 1) outside.new) }
     ensures takes { IfOk result (λ after. (line : Numbered) → slice_get script.now.lines at ≡ Some line → Takes (record {
       before = K.taken sink.old;
       after = K.taken sink.new;
@@ -102,13 +106,16 @@ fn after_line<R: Threads, H: Hash160 + Drop, K: Sink>(
           faults_after = K.faults sink.new;
         }) end) }
 {
-    let number = script.lines.as_slice()[at].0;
+    let (number, line) = &script.lines.as_slice()[at];
     let Ok(text) = line_text(&state, labels, script, at) else {
         return Err(End::Memory);
     };
     let state = match state.after(rt, labels, script, at) {
         Ok(state) => state,
-        Err(fault) => return Err(end_at(alloc, number, fault, sink)),
+        Err(fault) => return Err(end_at(alloc, *number, fault, sink)),
+    };
+    let Ok(()) = outside.change(line) else {
+        return Err(End::Memory);
     };
     let Ok(()) = write_whole(sink, text.as_bytes()) else {
         return Err(End::WriteFault);

@@ -18,6 +18,6 @@ pub use cause::Cause;
 pub use declaration::Declaration;
 pub use fault::{LineFault, refused};
 pub use item::{Item, Placed};
-pub use line::{Line, LineClause, LineGuard};
+pub use line::{Line, LineClause, LineGuard, Spot};
 pub use script::Script;
 pub use verb::Verb;

@@ -77,6 +77,14 @@ pub enum Line {
         to: Party,
         bytes: Bytes,
     },
+    /// From now on reads, pushes and offers do not reach the place; the ring's messages do.
+    Cut {
+        spot: Spot,
+    },
+    /// From now on they reach it again.
+    Mend {
+        spot: Spot,
+    },
     /// The client reads the last version that it knows.
     Read {
         client: ClientId,
@@ -98,6 +106,13 @@ pub enum Line {
     },
     /// The last deliveries are shown.
     ShowRecent,
+}
+
+/// A place that can be cut off.
+#[derive(Clone, Copy, Debug, PartialEq, Eq)]
+pub enum Spot {
+    /// A member of the ring.
+    Member(MemberId),
 }
 
 /// Guards, and the actions that are done one after the other where all of them hold.

@@ -17,6 +17,8 @@ pub enum Verb {
     Mute,
     Unmute,
     Forge,
+    Cut,
+    Mend,
     Read,
     Show,
 }

@@ -3,7 +3,7 @@ ghost use Rattle.script_terms.specs.declared.cause.Cause.TheVariants as causes;
 ghost use Rattle.script_terms.specs.declared.verb.Verb.TheVariants as verbs;
 ghost use Rattle.script_grammar.specs.Forms.{said};
 ghost use Rattle.script_grammar.specs.Results.{Gives, where_holds};
-ghost use Rattle.script_grammar.specs.Steps.{is_party};
+ghost use Rattle.script_grammar.specs.Asks.{is_party};
 ghost use Rattle.script_words.specs.Parties.{party_of_number};
 ghost use Rattle.script_checks.specs.Next.{checked};
 ghost use Rattle.script_text.specs.Shared.{delivery, loss};

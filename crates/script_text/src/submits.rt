@@ -8,8 +8,7 @@ ghost use Rattle.script_text.specs.Texts.{texts};
 
 use script_checks::{Known, changing, in_size};
 use script_terms::{Item, Line, LineFault, refused};
-use script_update::{clauses, groups};
-use script_words::{label, number};
+use script_words::{clauses, groups, label, number};
 use std::alloc::Global;
 
 /// `submit C LABEL UPDATE`

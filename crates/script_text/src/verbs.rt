@@ -10,6 +10,7 @@ use crate::declarations::{block, clients, faulty, home, pond, ring};
 use crate::deliveries::{deliver, lose, mute, unmute};
 use crate::events::{read, resubmit, settle, show};
 use crate::forgeries::forge;
+use crate::outside::{cut, mend};
 use crate::submits::submit;
 use script_checks::Known;
 use script_terms::{Item, LineFault, Verb};
@@ -61,6 +62,12 @@ pub(crate) fn verb(word: &[u8]) -> Option<Verb>
     if word == b"forge".as_slice() {
         return Some(Verb::Forge);
     }
+    if word == b"cut".as_slice() {
+        return Some(Verb::Cut);
+    }
+    if word == b"mend".as_slice() {
+        return Some(Verb::Mend);
+    }
     if word == b"read".as_slice() {
         return Some(Verb::Read);
     }
@@ -109,6 +116,8 @@ pub(crate) fn said(
         Verb::Mute => mute(known, words),
         Verb::Unmute => unmute(known, words),
         Verb::Forge => forge(alloc, known, words),
+        Verb::Cut => cut(known, words),
+        Verb::Mend => mend(known, words),
         Verb::Read => read(known, words),
         Verb::Show => show(known, words),
     }

@@ -35,6 +35,13 @@ abbrev pub read_text : List (List ℕ) → List ℕ
 read_text [] = codes "no heart" ++ line_feed
 read_text (content ∷ older) = version_line (length older) content
 
+-- the words of outcomes: a version that was made, a refusal, and a repeat
+abbrev pub made_text : ℕ → List ℕ
+made_text version = codes "made " ++ decimal version
+
+abbrev pub repeat_text : List ℕ
+repeat_text = codes "repeat"
+
 abbrev pub refusal_text : Refusal → List ℕ
 refusal_text NoClause = codes "no clause"
 refusal_text OutOfRange = codes "out of range"
@@ -42,9 +49,9 @@ refusal_text TooLong = codes "too long"
 
 -- the outcome of a request on an object with so many versions, the empty one among them
 abbrev pub outcome_text : ℕ → Effect → List ℕ
-outcome_text count (Makes content) = codes "made " ++ decimal count
+outcome_text count (Makes content) = made_text count
 outcome_text count (Refuses refusal) = refusal_text refusal
-outcome_text count Repeats = codes "repeat"
+outcome_text count Repeats = repeat_text
 
 -- the line of a slot: its number, the client and number of its request, and the outcome
 abbrev pub slot_line : ℕ → Request → List ℕ → List ℕ
@@ -104,11 +111,11 @@ recent_text places = codes "recent " ++ decimal (length places) ++ line_feed ++ 
 
 -- an outcome that a client was told
 abbrev pub told_text : Outcome → List ℕ
-told_text (told.Made version name) = codes "made " ++ decimal version.0
-told_text told.NoClause = codes "no clause"
-told_text told.OutOfRange = codes "out of range"
-told_text told.TooLong = codes "too long"
-told_text told.Repeat = codes "repeat"
+told_text (told.Made version name) = made_text version.0
+told_text told.NoClause = refusal_text NoClause
+told_text told.OutOfRange = refusal_text OutOfRange
+told_text told.TooLong = refusal_text TooLong
+told_text told.Repeat = repeat_text
 
 -- what a client believes of a request: its outcome, which is spelled, or nothing yet
 abbrev pub belief_text : Option (List ℕ) → List ℕ

@@ -15,6 +15,7 @@ use Rattle.fold_model.specs.Rings.{ring_of}
 use Rattle.ring_model.specs.Places.{Place}
 use Rattle.ring_model.specs.Deliveries.{pending}
 use Rattle.message_model.specs.Told.{Told, stands_at, touches}
+use Rattle.script_grammar.specs.Asks.{is_among}
 use Rattle.script_terms.specs.declared.line.Line.{Line}
 use Rattle.script_terms.specs.declared.line.Line.TheVariants.{Submit, Resubmit, Deliver, Lose, Settle, Mute, Unmute, ForgeOrder, ForgePrepare, ForgeCommit, ForgeHeart, ForgeRaw}
 use Rattle.script_terms.specs.declared.script.Script.{Script}
@@ -22,7 +23,7 @@ use Rattle.text_model.specs.Requests.{Numbered, next_request, submitted}
 
 -- whether a script declares a member faulty
 abbrev pub is_declared_faulty : Script → ℕ → Bool
-is_declared_faulty script number = list_any (λ (member : MemberId). member.0 == number) script.setup.faulty
+is_declared_faulty script number = is_among script.setup.faulty number
 
 -- nothing is archived yet, so all manifests are alike, and there are no fragments
 abbrev pub no_archives : Archiving

@@ -5,6 +5,8 @@ pub mod Events
 pub mod Executed
 pub mod Labels
 pub mod Named
+pub mod Outside
 pub mod Requests
+pub mod State
 pub mod Text
 pub mod Worked

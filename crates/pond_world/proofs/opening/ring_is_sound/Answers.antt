@@ -1,7 +1,7 @@
 use Rattle.std.proofs.Common.{◌+◌, ◌*◌, arith}
 use Rattle.fold_model.proofs.Joined.{ring_is_read}
 use Rattle.pond_world.specs.Setups.{is_among}
-use Rattle.pond_world.proofs.Flags.{few_among}
+use Rattle.pond_world.proofs.Faulty.{few_among}
 use Rattle.pond_world.proofs.opening.ring_is_sound.Goals as goal
 
 pub returns : goal.returns

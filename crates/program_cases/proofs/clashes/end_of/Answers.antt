@@ -1,4 +1,4 @@
-use Rattle.script_limits.proofs.Within.{within}
+use Rattle.script_laws.proofs.Within.{within}
 use Rattle.program_cases.proofs.clashes.end_of.Goals as goal
 
 pub run-requires : goal.run-requires

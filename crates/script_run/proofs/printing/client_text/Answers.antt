@@ -12,7 +12,7 @@ client-known-requires g c =
     let a = c.args in
     let h = g.H.Hash160.naming in
     client_here h a.script.now (lines_before a.script.now a.at) a.state.now.site (skips_of a.state.now.site.world) a.client c.requires.turn.stands
-    (turn_fits c.lines_fit_in_turn.ensures.turn h a.script.now a.at (ShowClient a.client) a.state.now.site (skips_of a.state.now.site.world) c.requires.turn)
+    (turn_fits c.lines_fit_in_turn.ensures.turn h a.script.now a.at (ShowClient a.client) a.state.now.site (skips_of a.state.now.site.world) c.requires.turn).meets.0
 
 pub returns : goal.returns
 returns g c =

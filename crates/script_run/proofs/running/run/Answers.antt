@@ -15,8 +15,10 @@ returns-in-Err g c =
     says_first h script _ c.end_at.result (c.end_at.ensures h (named h script []) (text_of h script) c.in-Err.ensures.fault (start_written h script))
 
 pub loop-at-init : goal.loop-at-init
-loop-at-init g c =
-    stands_first g.H.Hash160.naming c.args.script.now (g.K.Sink.taken c.args.sink.now) (g.K.Sink.faults c.args.sink.now) c.in-Ok.first.0.site (skips_of c.in-Ok.first.0.site.world) c.in-Ok.ensures.stands
+loop-at-init g c = (
+  stands_first g.H.Hash160.naming c.args.script.now (g.K.Sink.taken c.args.sink.now) (g.K.Sink.faults c.args.sink.now) c.in-Ok.first.0.site (skips_of c.in-Ok.first.0.site.world) c.in-Ok.ensures.stands,
+  c.new-outside.ensures,
+)
 
 pub returns-in-Err-after_line : goal.returns-in-Err-after_line
 returns-in-Err-after_line g c =
@@ -37,7 +39,7 @@ returns-in-Err-after_line g c =
       faults_before = g.K.Sink.faults c.loop-at.sink;
       faults_after = g.K.Sink.faults c.after_line.new.sink;
     } in
-    says_at h script i line.0 first then c.loop-at.state.site (skips_of c.loop-at.state.site.world) c.in-Err-after_line.end c.loop-at.invariant refl refl here line.2 (c.in-Err-after_line.ensures.ends line.0 line.1)
+    says_at h script i line.0 first then c.loop-at.state.site (skips_of c.loop-at.state.site.world) c.in-Err-after_line.end c.loop-at.invariant.0 refl refl here line.2 (c.in-Err-after_line.ensures.ends line.0 line.1)
 
 pub loop-at-preserved : goal.loop-at-preserved
 loop-at-preserved g c =
@@ -59,12 +61,14 @@ loop-at-preserved g c =
       faults_after = g.K.Sink.faults c.after_line.new.sink;
     } in
     let now : StandsFor h script (line.0 ∷ lines_before script i) c.in-Ok-after_line.state.site (skips_of c.in-Ok-after_line.state.site.world) =
-    subst (λ lines. StandsFor h script lines c.in-Ok-after_line.state.site (skips_of c.in-Ok-after_line.state.site.world)) (lines_more script i line.0 line.1) c.in-Ok-after_line.ensures.stands in
-    stands_more h script i line.0 first then c.loop-at.state.site (skips_of c.loop-at.state.site.world) c.in-Ok-after_line.state.site (skips_of c.in-Ok-after_line.state.site.world) c.loop-at.invariant refl refl here line.2 now
-    (c.in-Ok-after_line.ensures.takes line.0 line.1)
+    subst (λ lines. StandsFor h script lines c.in-Ok-after_line.state.site (skips_of c.in-Ok-after_line.state.site.world)) (lines_more script i line.0 line.1) c.in-Ok-after_line.ensures.stands in (
+      stands_more h script i line.0 first then c.loop-at.state.site (skips_of c.loop-at.state.site.world) c.in-Ok-after_line.state.site (skips_of c.in-Ok-after_line.state.site.world) c.loop-at.invariant.0 refl refl here line.2 now
+          (c.in-Ok-after_line.ensures.takes line.0 line.1),
+      c.in-Ok-after_line.ensures.outside,
+    )
 
 pub returns : goal.returns
 returns g c =
     let script = c.args.script.now in
     let all : length script.lines ≤ c.loop-at.at = omega (arith, c.loop-at-test.false, c.len-at-end.ensures) in
-    says_done c.submits_are_requests.ensures.strings c.lists_are_one.ensures c.beliefs_are_true.ensures g.H.Hash160.naming script c.loop-at.at _ c.loop-at.state.site (skips_of c.loop-at.state.site.world) c.requires.setup c.loop-at.invariant all
+    says_done c.submits_are_requests.ensures.strings c.lists_are_one.ensures c.beliefs_are_true.ensures g.H.Hash160.naming script c.loop-at.at _ c.loop-at.state.site (skips_of c.loop-at.state.site.world) c.requires.setup c.loop-at.invariant.0 all

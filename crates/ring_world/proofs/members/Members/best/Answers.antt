@@ -5,7 +5,7 @@ use Rattle.ring_world.proofs.members.Members.best.Goals as goal
 pub loop-left-preserved : goal.loop-left-preserved
 loop-left-preserved g c = (
   omega (arith, c.loop-left.invariant.0),
-  c.better-best.ensures.within,
+  c.better-best.ensures.there,
   λ r got archived h n e.
       let low : c.loop-left.left ≤ 3 * r.f + 1 = omega (arith, c.loop-left.invariant.0, h.count) in
       let some : suc (n - 1) ≡ n = omega (arith, low, e, c.loop-left-test.true) in

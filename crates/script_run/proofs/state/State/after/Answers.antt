@@ -1,9 +1,9 @@
-use Rattle.std.proofs.Common.{◌≡◌, List, Some, length, slice_get, inl, inr, refl, sym, ap, subst, arith}
+use Rattle.std.proofs.Common.{◌≡◌, List, Some, length, slice_get, refl, sym, ap, subst, arith}
 use Rattle.script_terms.specs.declared.line.Line.{Line}
 use Rattle.script_terms.specs.declared.line.LineClause.{LineClause}
 use Rattle.script_terms.specs.declared.line.Line.TheVariants.{Submit, Resubmit, Deliver, Lose, Settle, Mute, Unmute, ForgeOrder, ForgePrepare, ForgeCommit, ForgeHeart, ForgeRaw}
 use Rattle.script_run.proofs.Shown.{line_here}
-use Rattle.script_run.proofs.Passed.{IsShow, shown_next}
+use Rattle.script_run.proofs.Passed.{IsApart, apart_next}
 use Rattle.ring_world.specs.Skipping.{skips as skips_of}
 use Rattle.script_run.proofs.state.State.after.Goals as goal
 
@@ -107,20 +107,24 @@ forged_raw-requires g c = record {
   stands = c.requires.stands;
 }
 
-pub returns-in-Read-clause-stands : goal.returns-in-Read-clause-stands
-returns-in-Read-clause-stands g c =
+pub returns-in_default-clause-stands : goal.returns-in_default-clause-stands
+returns-in_default-clause-stands g c =
     let line : Line = c.index-as_slice-at.result.1 in
-    let shows : IsShow line = elim c.in-Read.is as (λ _. IsShow line) [
-      | inl read ↦ subst IsShow (sym read.2) tt
-      | inr r ↦ elim r as (λ _. IsShow line) [
-        | inl member ↦ subst IsShow (sym member.1) tt
-        | inr q ↦ elim q as (λ _. IsShow line) [
-          | inl client ↦ subst IsShow (sym client.1) tt
-          | inr s ↦ elim s as (λ _. IsShow line) [ inl version ↦ subst IsShow (sym version.3) tt | inr recent ↦ subst IsShow (sym recent) tt ]
-        ]
-      ]
-    ] in
-    shown_next g.H.Hash160.naming c.args.script.now c.args.at line c.args.self.site (skips_of c.args.self.site.world) shows (record {
+    let apart : IsApart line = record {
+      submit = c.in_default.not-Submit;
+      resubmit = c.in_default.not-Resubmit;
+      deliver = c.in_default.not-Deliver;
+      lose = c.in_default.not-Lose;
+      settle = c.in_default.not-Settle;
+      mute = c.in_default.not-Mute;
+      unmute = c.in_default.not-Unmute;
+      order = c.in_default.not-ForgeOrder;
+      prepare = c.in_default.not-ForgePrepare;
+      commit = c.in_default.not-ForgeCommit;
+      heart = c.in_default.not-ForgeHeart;
+      raw = c.in_default.not-ForgeRaw;
+    } in
+    apart_next g.H.Hash160.naming c.args.script.now c.args.at line c.args.self.site (skips_of c.args.self.site.world) apart (record {
       within = c.requires.within;
       number = c.index-as_slice-at.result.0;
       here = line_here c.args.script.now c.as_slice.result.now c.args.at c.index-as_slice-at.result line c.as_slice.ensures c.requires.here c.index-as_slice-at.is refl;

@@ -10,7 +10,7 @@ pub lose-requires : goal.lose-requires
 lose-requires g c =
     let fits = turn_fits c.lines_fit_in_turn.ensures.turn g.H.Hash160.naming c.args.script.now c.args.at (Lose c.args.from c.args.to c.args.place) c.args.self.site (skips_of c.args.self.site.world) c.requires in
     let setup = c.args.script.now.setup in
-    (declared_seat setup c.args.from c.requires.within.setup fits.0, declared_seat setup c.args.to c.requires.within.setup fits.1, fits.2)
+    (declared_seat setup c.args.from c.requires.within.setup fits.meets.0, declared_seat setup c.args.to c.requires.within.setup fits.meets.1.0, fits.meets.1.1.0)
 
 pub returns : goal.returns
 returns g c =

@@ -9,7 +9,7 @@ use Rattle.script_run.proofs.state.State.muted.Goals as goal
 pub mute-requires : goal.mute-requires
 mute-requires g c =
     declared_seat c.args.script.now.setup c.args.party c.requires.within.setup
-    (turn_fits c.lines_fit_in_turn.ensures.turn g.H.Hash160.naming c.args.script.now c.args.at (Mute c.args.party) c.args.self.site (skips_of c.args.self.site.world) c.requires)
+    (turn_fits c.lines_fit_in_turn.ensures.turn g.H.Hash160.naming c.args.script.now c.args.at (Mute c.args.party) c.args.self.site (skips_of c.args.self.site.world) c.requires).meets.0
 
 pub returns : goal.returns
 returns g c =

@@ -28,7 +28,7 @@ use Rattle.script_run.proofs.state.State.submitted.Goals as goal
 pub clauses_of-requires : goal.clauses_of-requires
 clauses_of-requires g c =
     let a = c.args in
-    (turn_fits c.lines_fit_in_turn.ensures.turn g.H.Hash160.naming a.script.now a.at (Submit a.client a.label a.clauses.now) a.self.site (skips_of a.self.site.world) c.requires).1.1
+    (turn_fits c.lines_fit_in_turn.ensures.turn g.H.Hash160.naming a.script.now a.at (Submit a.client a.label a.clauses.now) a.self.site (skips_of a.self.site.world) c.requires).light.0.1
 
 pub returns-in_err-clauses-clause-fault : goal.returns-in_err-clauses-clause-fault
 returns-in_err-clauses-clause-fault g c =

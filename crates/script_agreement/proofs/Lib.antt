@@ -1,4 +1,0 @@
-mod Lines
-mod Lists
-mod Names
-mod Beliefs

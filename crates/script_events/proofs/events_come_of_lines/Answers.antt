@@ -1,5 +1,0 @@
-use Rattle.script_events.proofs.Coming.{events_come_of_lines}
-use Rattle.script_events.proofs.events_come_of_lines.Goals as goal
-
-pub returns : goal.returns
-returns c = events_come_of_lines

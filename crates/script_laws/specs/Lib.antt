@@ -1,0 +1,9 @@
+pub mod Limits
+pub mod Turns
+pub mod Events
+pub mod EventLaws
+pub mod NamingLaws
+pub mod OneList
+pub mod Beliefs
+pub mod AgreementLaws
+pub mod FirstLines

@@ -1,9 +1,0 @@
-pub mod Gathered
-pub mod Contents
-pub mod Groups
-pub mod Updates
-pub mod Spoken
-pub mod Setups
-pub mod Lines
-pub mod Within
-pub mod Turns

@@ -1,8 +1,0 @@
-use Rattle.std.proofs.Common.{◌≡◌, drop}
-use Rattle.script_grammar.specs.Update.{gathered, action_of}
-use Rattle.script_update.specs.Groups.{groups_in}
-use Rattle.script_update.proofs.Gathering.{with_front}
-use Rattle.script_update.proofs.action.actions.Given as goal
-
-abbrev pub invariant-loop-group : goal.invariant-loop-group
-invariant-loop-group l = with_front l.actions (gathered action_of (groups_in (drop l.group-index l.groups))) ≡ gathered action_of (groups_in l.groups)
