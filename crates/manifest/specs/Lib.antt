@@ -1,0 +1,5 @@
+pub mod Decoding
+pub mod Grammar
+pub mod Reads
+pub mod Spelling
+pub mod Statements
